@@ -1,0 +1,207 @@
+// Copyright (c) The nextest Contributors
+// SPDX-License-Identifier: MIT OR Apache-2.0
+
+// Faults: why a call is refused, by the layer that finds it. A fault that is passed up keeps the lower one whole.
+ghost use mathlib.Core.Path.{_≡_};
+ghost use lib.ListN.{length};
+ghost use Rattle.errors.specs.Refusals.{textInReading, readingInLowering, tablesInLowering, loweringInSelector, ofText, ofReading, ofLowering, refusalOf};
+
+// The layers, from the lowest up.
+#[derive(Clone, Copy, PartialEq, Eq, Debug)]
+pub enum Layer {
+    Text,
+    Tables,
+    Reading,
+    Lowering,
+    Selector,
+}
+
+// What a refused call answers: the number of the refusal, a place in the text, how many reports were made, and the layer.
+#[derive(Clone, Copy, PartialEq, Eq, Debug)]
+pub struct Refusal {
+    pub number: u8,
+    pub place: usize,
+    pub count: usize,
+    pub layer: Layer,
+}
+
+// A text that is not read at all.
+#[derive(Clone, Copy, PartialEq, Eq, Debug)]
+pub enum TextFault {
+    // It has more than 1,024 bytes.
+    Long,
+    // It is ill-formed UTF-8; `place` is the length of its longest well-formed start.
+    Garbled { place: usize },
+}
+
+// Tables with too many rows, or with a name outside the names text.
+#[derive(Clone, Copy, PartialEq, Eq, Debug)]
+pub struct TablesFault;
+
+// A text that is no filter.
+#[derive(Clone, Copy, PartialEq, Eq, Debug)]
+pub enum ReadingFault {
+    Text(TextFault),
+    // A `/` where an unmarked name would begin.
+    Regex { place: usize, count: usize },
+    // A nest too many: the not sign or bracket that opens it.
+    Deep { place: usize, count: usize },
+    // A part too many.
+    Crowded { place: usize, count: usize },
+    // Reports were made; `place` is the start of the first.
+    Faulty { place: usize, count: usize },
+}
+
+// A filter that cannot be lowered to the given tables.
+#[derive(Clone, Copy, PartialEq, Eq, Debug)]
+pub enum LoweringFault {
+    Reading(ReadingFault),
+    Tables(TablesFault),
+    // Predicates that its kind does not allow; `place` is the start of the first.
+    Banned { place: usize, count: usize },
+    // The leftmost `group`, while groups are unavailable.
+    NoGroups { place: usize },
+    // Names that match nothing; `place` is the start of the first.
+    NothingFound { place: usize, count: usize },
+}
+
+// A call that the selector refuses.
+#[derive(Clone, Copy, PartialEq, Eq, Debug)]
+pub enum SelectorFault {
+    Lowering(LoweringFault),
+    // A default was fixed, or a filter admitted, before.
+    Late,
+    // Eight filters are held.
+    Full,
+    // No filter has that number.
+    NoSuchFilter,
+    // The filter has a `group`, the leftmost at `place`, and no roster was given.
+    NoRoster { place: usize },
+}
+
+pub impl From<TextFault> for ReadingFault as ReadingFromText {
+    ghost converts = { λ x y. y ≡ textInReading x };
+
+    fn from(value: TextFault) -> Self {
+        ReadingFault::Text(value)
+    }
+}
+
+pub impl From<TextFault> for LoweringFault as LoweringFromText {
+    ghost converts = { λ x y. y ≡ readingInLowering (textInReading x) };
+
+    fn from(value: TextFault) -> Self {
+        LoweringFault::Reading(ReadingFault::Text(value))
+    }
+}
+
+pub impl From<TablesFault> for LoweringFault as LoweringFromTables {
+    ghost converts = { λ x y. y ≡ tablesInLowering x };
+
+    fn from(value: TablesFault) -> Self {
+        LoweringFault::Tables(value)
+    }
+}
+
+pub impl From<ReadingFault> for LoweringFault as LoweringFromReading {
+    ghost converts = { λ x y. y ≡ readingInLowering x };
+
+    fn from(value: ReadingFault) -> Self {
+        LoweringFault::Reading(value)
+    }
+}
+
+pub impl From<LoweringFault> for SelectorFault as SelectorFromLowering {
+    ghost converts = { λ x y. y ≡ loweringInSelector x };
+
+    fn from(value: LoweringFault) -> Self {
+        SelectorFault::Lowering(value)
+    }
+}
+
+impl TextFault {
+    fn refusal(self) -> Refusal
+        ensures { λ r. ⌜ r ≡ ofText self ⌝ }
+    {
+        let layer = Layer::Text;
+        match self {
+            TextFault::Long => Refusal { number: 3, place: 0, count: 0, layer },
+            TextFault::Garbled { place } => Refusal { number: 4, place, count: 0, layer },
+        }
+    }
+}
+
+impl ReadingFault {
+    // What this fault answers where it is not passed up.
+    pub fn refusal(self) -> Refusal
+        ensures { λ r. ⌜ r ≡ ofReading self ⌝ }
+    {
+        let layer = Layer::Reading;
+        match self {
+            ReadingFault::Text(fault) => fault.refusal(),
+            ReadingFault::Regex { place, count } => Refusal { number: 6, place, count, layer },
+            ReadingFault::Deep { place, count } => Refusal { number: 7, place, count, layer },
+            ReadingFault::Crowded { place, count } => Refusal { number: 8, place, count, layer },
+            ReadingFault::Faulty { place, count } => Refusal { number: 9, place, count, layer },
+        }
+    }
+}
+
+impl LoweringFault {
+    fn refusal(self) -> Refusal
+        ensures { λ r. ⌜ r ≡ ofLowering self ⌝ }
+    {
+        let layer = Layer::Lowering;
+        match self {
+            LoweringFault::Reading(fault) => fault.refusal(),
+            LoweringFault::Tables(_) => Refusal { number: 5, place: 0, count: 0, layer: Layer::Tables },
+            LoweringFault::Banned { place, count } => Refusal { number: 10, place, count, layer },
+            LoweringFault::NoGroups { place } => Refusal { number: 11, place, count: 0, layer },
+            LoweringFault::NothingFound { place, count } => Refusal { number: 12, place, count, layer },
+        }
+    }
+}
+
+impl SelectorFault {
+    // What the refused call answers.
+    pub fn refusal(self) -> Refusal
+        ensures { λ r. ⌜ r ≡ refusalOf self ⌝ }
+    {
+        let layer = Layer::Selector;
+        match self {
+            SelectorFault::Lowering(fault) => fault.refusal(),
+            SelectorFault::Late => Refusal { number: 1, place: 0, count: 0, layer },
+            SelectorFault::Full => Refusal { number: 2, place: 0, count: 0, layer },
+            SelectorFault::NoSuchFilter => Refusal { number: 13, place: 0, count: 0, layer },
+            SelectorFault::NoRoster { place } => Refusal { number: 14, place, count: 0, layer },
+        }
+    }
+
+    // The number of the refusal, 1 to 14.
+    pub fn number(self) -> u8
+        ensures { λ r. ⌜ r ≡ refusalOf self .number ⌝ }
+    {
+        self.refusal().number
+    }
+
+    // Where in the text.
+    pub fn place(self) -> usize
+        ensures { λ r. ⌜ r ≡ refusalOf self .place ⌝ }
+    {
+        self.refusal().place
+    }
+
+    // How many reports were made.
+    pub fn count(self) -> usize
+        ensures { λ r. ⌜ r ≡ refusalOf self .count ⌝ }
+    {
+        self.refusal().count
+    }
+
+    // The layer that found it.
+    pub fn layer(self) -> Layer
+        ensures { λ r. ⌜ r ≡ refusalOf self .layer ⌝ }
+    {
+        self.refusal().layer
+    }
+}
