@@ -16,10 +16,6 @@ use Rattle.errors.specs.declared.faults.LoweringFault.the-variants.{Reading, T
 use Rattle.errors.specs.declared.faults.SelectorFault.{SelectorFault}
 use Rattle.errors.specs.declared.faults.SelectorFault.the-variants.{Lowering, Late, Full, NoSuchFilter, NoRoster}
 
--- the layers, from the lowest up
-abbrev pub layers : List Layer
-layers = layer.Text ∷ layer.Tables ∷ layer.Reading ∷ layer.Lowering ∷ layer.Selector ∷ []
-
 -- a lower fault, kept whole in the fault of an upper layer
 abbrev pub textInReading : TextFault → ReadingFault
 textInReading f = Text f
@@ -34,33 +30,33 @@ abbrev pub loweringInSelector : LoweringFault → SelectorFault
 loweringInSelector f = Lowering f
 
 -- number, place and count of a refusal that a layer finds
-abbrev pub refused : Layer → ℕ → ℕ → ℕ → Refusal
-refused l number place count = record { number = number; place = place; count = count; layer = l }
+abbrev pub refusedBy : Layer → ℕ → ℕ → ℕ → Refusal
+refusedBy l number place count = record { number = number; place = place; count = count; layer = l }
 
 abbrev pub ofText : TextFault → Refusal
-ofText Long = refused layer.Text 3 0 0
-ofText (Garbled place) = refused layer.Text 4 place 0
+ofText Long = refusedBy layer.Text 3 0 0
+ofText (Garbled place) = refusedBy layer.Text 4 place 0
 
 abbrev pub ofTables : TablesFault → Refusal
-ofTables _ = refused layer.Tables 5 0 0
+ofTables _ = refusedBy layer.Tables 5 0 0
 
 abbrev pub ofReading : ReadingFault → Refusal
 ofReading (Text f) = ofText f
-ofReading (Regex place count) = refused layer.Reading 6 place count
-ofReading (Deep place count) = refused layer.Reading 7 place count
-ofReading (Crowded place count) = refused layer.Reading 8 place count
-ofReading (Faulty place count) = refused layer.Reading 9 place count
+ofReading (Regex place count) = refusedBy layer.Reading 6 place count
+ofReading (Deep place count) = refusedBy layer.Reading 7 place count
+ofReading (Crowded place count) = refusedBy layer.Reading 8 place count
+ofReading (Faulty place count) = refusedBy layer.Reading 9 place count
 
 abbrev pub ofLowering : LoweringFault → Refusal
 ofLowering (Reading f) = ofReading f
 ofLowering (Tables f) = ofTables f
-ofLowering (Banned place count) = refused layer.Lowering 10 place count
-ofLowering (NoGroups place) = refused layer.Lowering 11 place 0
-ofLowering (NothingFound place count) = refused layer.Lowering 12 place count
+ofLowering (Banned place count) = refusedBy layer.Lowering 10 place count
+ofLowering (NoGroups place) = refusedBy layer.Lowering 11 place 0
+ofLowering (NothingFound place count) = refusedBy layer.Lowering 12 place count
 
 abbrev pub refusalOf : SelectorFault → Refusal
-refusalOf Late = refused layer.Selector 1 0 0
-refusalOf Full = refused layer.Selector 2 0 0
+refusalOf Late = refusedBy layer.Selector 1 0 0
+refusalOf Full = refusedBy layer.Selector 2 0 0
 refusalOf (Lowering f) = ofLowering f
-refusalOf NoSuchFilter = refused layer.Selector 13 0 0
-refusalOf (NoRoster place) = refused layer.Selector 14 place 0
+refusalOf NoSuchFilter = refusedBy layer.Selector 13 0 0
+refusalOf (NoRoster place) = refusedBy layer.Selector 14 place 0

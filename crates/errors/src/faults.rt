@@ -4,7 +4,7 @@
 // Faults: why a call is refused, by the layer that finds it. A fault that is passed up keeps the lower one whole.
 ghost use mathlib.Core.Path.{_≡_};
 ghost use lib.ListN.{length};
-ghost use Rattle.errors.specs.Refusals.{textInReading, readingInLowering, tablesInLowering, loweringInSelector, ofText, ofReading, ofLowering, refusalOf};
+ghost use Rattle.errors.specs.Refusals.{textInReading, readingInLowering, tablesInLowering, loweringInSelector, refusedBy, ofText, ofReading, ofLowering, refusalOf};
 
 // The layers, from the lowest up.
 #[derive(Clone, Copy, PartialEq, Eq, Debug)]
@@ -119,14 +119,25 @@ pub impl From<LoweringFault> for SelectorFault as SelectorFromLowering {
     }
 }
 
+fn refused(layer: Layer, number: u8, place: usize, count: usize) -> Refusal
+    ensures { λ r. ⌜ r ≡ refusedBy layer number place count ⌝ }
+{
+    Refusal {
+        number,
+        place,
+        count,
+        layer,
+    }
+}
+
 impl TextFault {
     fn refusal(self) -> Refusal
         ensures { λ r. ⌜ r ≡ ofText self ⌝ }
     {
         let layer = Layer::Text;
         match self {
-            TextFault::Long => Refusal { number: 3, place: 0, count: 0, layer },
-            TextFault::Garbled { place } => Refusal { number: 4, place, count: 0, layer },
+            TextFault::Long => refused(layer, 3, 0, 0),
+            TextFault::Garbled { place } => refused(layer, 4, place, 0),
         }
     }
 }
@@ -139,10 +150,10 @@ impl ReadingFault {
         let layer = Layer::Reading;
         match self {
             ReadingFault::Text(fault) => fault.refusal(),
-            ReadingFault::Regex { place, count } => Refusal { number: 6, place, count, layer },
-            ReadingFault::Deep { place, count } => Refusal { number: 7, place, count, layer },
-            ReadingFault::Crowded { place, count } => Refusal { number: 8, place, count, layer },
-            ReadingFault::Faulty { place, count } => Refusal { number: 9, place, count, layer },
+            ReadingFault::Regex { place, count } => refused(layer, 6, place, count),
+            ReadingFault::Deep { place, count } => refused(layer, 7, place, count),
+            ReadingFault::Crowded { place, count } => refused(layer, 8, place, count),
+            ReadingFault::Faulty { place, count } => refused(layer, 9, place, count),
         }
     }
 }
@@ -154,10 +165,10 @@ impl LoweringFault {
         let layer = Layer::Lowering;
         match self {
             LoweringFault::Reading(fault) => fault.refusal(),
-            LoweringFault::Tables(_) => Refusal { number: 5, place: 0, count: 0, layer: Layer::Tables },
-            LoweringFault::Banned { place, count } => Refusal { number: 10, place, count, layer },
-            LoweringFault::NoGroups { place } => Refusal { number: 11, place, count: 0, layer },
-            LoweringFault::NothingFound { place, count } => Refusal { number: 12, place, count, layer },
+            LoweringFault::Tables(_) => refused(Layer::Tables, 5, 0, 0),
+            LoweringFault::Banned { place, count } => refused(layer, 10, place, count),
+            LoweringFault::NoGroups { place } => refused(layer, 11, place, 0),
+            LoweringFault::NothingFound { place, count } => refused(layer, 12, place, count),
         }
     }
 }
@@ -170,10 +181,10 @@ impl SelectorFault {
         let layer = Layer::Selector;
         match self {
             SelectorFault::Lowering(fault) => fault.refusal(),
-            SelectorFault::Late => Refusal { number: 1, place: 0, count: 0, layer },
-            SelectorFault::Full => Refusal { number: 2, place: 0, count: 0, layer },
-            SelectorFault::NoSuchFilter => Refusal { number: 13, place: 0, count: 0, layer },
-            SelectorFault::NoRoster { place } => Refusal { number: 14, place, count: 0, layer },
+            SelectorFault::Late => refused(layer, 1, 0, 0),
+            SelectorFault::Full => refused(layer, 2, 0, 0),
+            SelectorFault::NoSuchFilter => refused(layer, 13, 0, 0),
+            SelectorFault::NoRoster { place } => refused(layer, 14, place, 0),
         }
     }
 

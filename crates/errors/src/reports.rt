@@ -9,7 +9,6 @@ ghost use lib.ListN.{length, getD};
 ghost use Rattle.std.specs.Written.{decimal};
 ghost use Rattle.std.specs.declared.option.Option.the-variants.{Some};
 ghost use Rattle.errors.specs.Kinds.{nameOf, numberOf, kinds};
-
 use std::fmt;
 
 // The kinds of report.

