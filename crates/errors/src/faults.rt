@@ -7,7 +7,7 @@ ghost use lib.ListN.{length};
 ghost use Rattle.errors.specs.Refusals.{textInReading, readingInLowering, tablesInLowering, loweringInSelector, refusedBy, ofText, ofReading, ofLowering, refusalOf};
 
 // The layers, from the lowest up.
-#[derive(Clone, Copy, PartialEq, Eq, Debug)]
+#[derive(Clone, Copy)]
 pub enum Layer {
     Text,
     Tables,
@@ -17,7 +17,7 @@ pub enum Layer {
 }
 
 // What a refused call answers: the number of the refusal, a place in the text, how many reports were made, and the layer.
-#[derive(Clone, Copy, PartialEq, Eq, Debug)]
+#[derive(Clone, Copy)]
 pub struct Refusal {
     pub number: u8,
     pub place: usize,
@@ -26,7 +26,7 @@ pub struct Refusal {
 }
 
 // A text that is not read at all.
-#[derive(Clone, Copy, PartialEq, Eq, Debug)]
+#[derive(Clone, Copy)]
 pub enum TextFault {
     // It has more than 1,024 bytes.
     Long,
@@ -35,11 +35,11 @@ pub enum TextFault {
 }
 
 // Tables with too many rows, or with a name outside the names text.
-#[derive(Clone, Copy, PartialEq, Eq, Debug)]
+#[derive(Clone, Copy)]
 pub struct TablesFault;
 
 // A text that is no filter.
-#[derive(Clone, Copy, PartialEq, Eq, Debug)]
+#[derive(Clone, Copy)]
 pub enum ReadingFault {
     Text(TextFault),
     // A `/` where an unmarked name would begin.
@@ -53,7 +53,7 @@ pub enum ReadingFault {
 }
 
 // A filter that cannot be lowered to the given tables.
-#[derive(Clone, Copy, PartialEq, Eq, Debug)]
+#[derive(Clone, Copy)]
 pub enum LoweringFault {
     Reading(ReadingFault),
     Tables(TablesFault),
@@ -66,7 +66,7 @@ pub enum LoweringFault {
 }
 
 // A call that the selector refuses.
-#[derive(Clone, Copy, PartialEq, Eq, Debug)]
+#[derive(Clone, Copy)]
 pub enum SelectorFault {
     Lowering(LoweringFault),
     // A default was fixed, or a filter admitted, before.

@@ -12,7 +12,7 @@ ghost use Rattle.errors.specs.Kinds.{nameOf, numberOf, kinds};
 use std::fmt;
 
 // The kinds of report.
-#[derive(Clone, Copy, PartialEq, Eq, Debug)]
+#[derive(Clone, Copy)]
 pub enum ReportKind {
     // A glob that is not well formed.
     InvalidGlob,
@@ -93,7 +93,7 @@ impl ReportKind {
 }
 
 // A report: its kind, and the part of the text that it speaks of, in bytes.
-#[derive(Clone, Copy, PartialEq, Eq, Debug)]
+#[derive(Clone, Copy)]
 pub struct Report {
     pub kind: ReportKind,
     pub start: usize,

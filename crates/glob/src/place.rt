@@ -5,7 +5,7 @@ ghost use Rattle.std.specs.shelf.Text.{sameBytes};
 ghost use Rattle.glob.specs.Parts.{partOf, stands};
 
 // A part of a text, in bytes.
-#[derive(Clone, Copy, PartialEq, Eq, Debug)]
+#[derive(Clone, Copy)]
 pub struct Place {
     pub start: usize,
     pub length: usize,

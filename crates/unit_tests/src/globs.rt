@@ -13,7 +13,7 @@ use std::test::*;
 // Each ill-formed pattern beside its nearest well-formed neighbour.
 #[test]
 fn syntax() -> Result<(), Fail> {
-    let table: [(&[u8], &[u8]); 20] = [
+    let table: [(&[u8], &[u8]); 21] = [
         (b"a\\", b"a\\\\"),
         (b"[", b"\\["),
         (b"[]", b"[a]"),
@@ -33,6 +33,7 @@ fn syntax() -> Result<(), Fail> {
         (b"[\xc3\xa9]", b"\xc3\xa9"),
         (b"[a-\\z]", b"[a-z]"),
         (b"{a}", b"\\{a\\}"),
+        (b"{a,b}", b"\\{a,b\\}"),
         (b"a}", b"a\\}"),
     ];
     for (ill, well) in table {
@@ -46,7 +47,7 @@ fn syntax() -> Result<(), Fail> {
 
 #[test]
 fn matching() -> Result<(), Fail> {
-    let table: [(&[u8], &[u8], bool); 26] = [
+    let table: [(&[u8], &[u8], bool); 27] = [
         (b"", b"", true),
         (b"", b"a", false),
         (b"*", b"", true),
@@ -54,6 +55,7 @@ fn matching() -> Result<(), Fail> {
         (b"?", b"\n", true),
         (b"*", b"a\nb", true),
         (b"a*b", b"ab", true),
+        (b"a*b", b"a\nb", true),
         (b"a*b", b"abc", false),
         (b"*ab*c", b"aabxabyc", true),
         (b"**/a", b"a", false),

@@ -1,7 +1,5 @@
 // Reports, faults and the check of a text.
 use errors::faults::Layer;
-use errors::faults::LayerDebug;
-use errors::faults::LayerPartialEq;
 use errors::faults::LoweringFault;
 use errors::faults::LoweringFromReading;
 use errors::faults::LoweringFromTables;
@@ -9,13 +7,9 @@ use errors::faults::LoweringFromText;
 use errors::faults::ReadingFault;
 use errors::faults::ReadingFromText;
 use errors::faults::SelectorFault;
-use errors::faults::SelectorFaultDebug;
-use errors::faults::SelectorFaultPartialEq;
 use errors::faults::SelectorFromLowering;
 use errors::faults::TablesFault;
 use errors::faults::TextFault;
-use errors::faults::TextFaultDebug;
-use errors::faults::TextFaultPartialEq;
 use errors::reports::Report;
 use errors::reports::ReportDisplay;
 use errors::reports::ReportKind;
@@ -32,17 +26,17 @@ fn is_refused(
     check_eq(fault.number(), number)?;
     check_eq(fault.place(), place)?;
     check_eq(fault.count(), count)?;
-    check_eq(fault.layer(), layer)
+    check_eq(fault.layer() as u8, layer as u8)
 }
 
-fn lowered(fault: LoweringFault) -> Result<(), SelectorFault> {
+// A lower fault is passed up by `?`, and kept whole.
+fn lowered(fault: TextFault) -> Result<(), LoweringFault> {
     Err(fault)?;
     Ok(())
 }
 
-// A lower fault is passed up by `?`, and kept whole.
-fn passed_up(fault: TextFault) -> Result<(), LoweringFault> {
-    Err(fault)?;
+fn passed_up(fault: TextFault) -> Result<(), SelectorFault> {
+    lowered(fault)?;
     Ok(())
 }
 
@@ -128,38 +122,35 @@ fn numbers() -> Result<(), Fail> {
 
 #[test]
 fn kept_whole() -> Result<(), Fail> {
-    let fault = TextFault::Garbled { place: 5 };
-    let Err(lower) = passed_up(fault) else {
-        return Err(Fail::new("a fault"));
+    let garbled = TextFault::Garbled { place: 5 };
+    let Err(SelectorFault::Lowering(LoweringFault::Reading(ReadingFault::Text(fault)))) = passed_up(
+        garbled,
+    ) else {
+        return Err(Fail::new("a text fault in a selector fault"));
     };
-    let whole = SelectorFault::Lowering(LoweringFault::Reading(ReadingFault::Text(fault)));
-    check_eq(lowered(lower), Err(whole))?;
-    check_eq(ReadingFault::from(fault).refusal().number, 4)
+    check(matches!(fault, TextFault::Garbled { place: 5 }))?;
+    check_eq(ReadingFault::from(garbled).refusal().number, 4)
 }
 
-fn fault_of(text: &[u8]) -> Option<TextFault> {
-    check_text(text).err()
+// The place of a garbled text; the length of a well-formed one; none of a long one.
+fn read_up_to(text: &[u8]) -> Option<usize> {
+    match check_text(text) {
+        Ok(s) => Some(s.len()),
+        Err(TextFault::Garbled { place }) => Some(place),
+        Err(TextFault::Long) => None,
+    }
 }
 
 #[test]
 fn texts() -> Result<(), Fail> {
     let mut text = [b'a'; 1025];
-    check(fault_of(b"").is_none())?;
-    check(fault_of(&text[0..1024]).is_none())?;
+    check_eq(read_up_to(b""), Some(0))?;
+    check_eq(read_up_to(&text[0..1024]), Some(1024))?;
     text[0] = 0xff;
-    check_eq(fault_of(&text), Some(TextFault::Long))?;
-    check_eq(
-        fault_of(&text[0..1024]),
-        Some(TextFault::Garbled { place: 0 }),
-    )?;
-    check_eq(
-        fault_of(b"a\xc3\xb6\xc3"),
-        Some(TextFault::Garbled { place: 3 }),
-    )?;
-    check_eq(
-        fault_of(b"\xed\xa0\x80"),
-        Some(TextFault::Garbled { place: 0 }),
-    )
+    check_eq(read_up_to(&text), None)?;
+    check_eq(read_up_to(&text[0..1024]), Some(0))?;
+    check_eq(read_up_to(b"a\xc3\xb6\xc3"), Some(3))?;
+    check_eq(read_up_to(b"\xed\xa0\x80"), Some(0))
 }
 
 #[test]
