@@ -44,78 +44,36 @@ fn passed_up(fault: TextFault) -> Result<(), SelectorFault> {
 fn numbers() -> Result<(), Fail> {
     let place = 7;
     let count = 3;
+    let read = [
+        ReadingFault::Regex { place, count },
+        ReadingFault::Deep { place, count },
+        ReadingFault::Crowded { place, count },
+        ReadingFault::Faulty { place, count },
+    ];
+    for (i, fault) in read.iter().enumerate() {
+        let number = (i + 6) as u8;
+        is_refused(
+            LoweringFault::from(*fault).into(),
+            number,
+            7,
+            3,
+            Layer::Reading,
+        )?;
+    }
+    let long = LoweringFault::from(TextFault::Long);
+    let garbled = LoweringFault::from(TextFault::Garbled { place });
+    let tables = LoweringFault::from(TablesFault);
+    let banned = LoweringFault::Banned { place, count };
+    let no_groups = LoweringFault::NoGroups { place };
+    let nothing_found = LoweringFault::NothingFound { place, count };
     is_refused(SelectorFault::Late, 1, 0, 0, Layer::Selector)?;
     is_refused(SelectorFault::Full, 2, 0, 0, Layer::Selector)?;
-    is_refused(
-        LoweringFault::from(TextFault::Long).into(),
-        3,
-        0,
-        0,
-        Layer::Text,
-    )?;
-    is_refused(
-        LoweringFault::from(TextFault::Garbled { place }).into(),
-        4,
-        7,
-        0,
-        Layer::Text,
-    )?;
-    is_refused(
-        LoweringFault::from(TablesFault).into(),
-        5,
-        0,
-        0,
-        Layer::Tables,
-    )?;
-    is_refused(
-        LoweringFault::from(ReadingFault::Regex { place, count }).into(),
-        6,
-        7,
-        3,
-        Layer::Reading,
-    )?;
-    is_refused(
-        LoweringFault::from(ReadingFault::Deep { place, count }).into(),
-        7,
-        7,
-        3,
-        Layer::Reading,
-    )?;
-    is_refused(
-        LoweringFault::from(ReadingFault::Crowded { place, count }).into(),
-        8,
-        7,
-        3,
-        Layer::Reading,
-    )?;
-    is_refused(
-        LoweringFault::from(ReadingFault::Faulty { place, count }).into(),
-        9,
-        7,
-        3,
-        Layer::Reading,
-    )?;
-    is_refused(
-        LoweringFault::Banned { place, count }.into(),
-        10,
-        7,
-        3,
-        Layer::Lowering,
-    )?;
-    is_refused(
-        LoweringFault::NoGroups { place }.into(),
-        11,
-        7,
-        0,
-        Layer::Lowering,
-    )?;
-    is_refused(
-        LoweringFault::NothingFound { place, count }.into(),
-        12,
-        7,
-        3,
-        Layer::Lowering,
-    )?;
+    is_refused(long.into(), 3, 0, 0, Layer::Text)?;
+    is_refused(garbled.into(), 4, 7, 0, Layer::Text)?;
+    is_refused(tables.into(), 5, 0, 0, Layer::Tables)?;
+    is_refused(banned.into(), 10, 7, 3, Layer::Lowering)?;
+    is_refused(no_groups.into(), 11, 7, 0, Layer::Lowering)?;
+    is_refused(nothing_found.into(), 12, 7, 3, Layer::Lowering)?;
     is_refused(SelectorFault::NoSuchFilter, 13, 0, 0, Layer::Selector)?;
     is_refused(SelectorFault::NoRoster { place }, 14, 7, 0, Layer::Selector)
 }
