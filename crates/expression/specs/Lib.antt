@@ -1,0 +1,5 @@
+pub mod Logic
+pub mod Kleene
+pub mod Tree
+pub mod Stack
+pub mod Evaluation
