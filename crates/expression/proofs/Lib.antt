@@ -1,2 +1,4 @@
 pub mod Stacks
 pub mod Trees
+pub mod Bits
+pub mod SetLaws

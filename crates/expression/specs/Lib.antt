@@ -3,3 +3,4 @@ pub mod Kleene
 pub mod Tree
 pub mod Stack
 pub mod Evaluation
+pub mod NumberSets

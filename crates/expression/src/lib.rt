@@ -5,4 +5,5 @@
 pub mod evaluate;
 pub mod logic;
 pub mod nodes;
+pub mod number_set;
 pub mod queries;
