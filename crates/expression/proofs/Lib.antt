@@ -2,3 +2,4 @@ pub mod Stacks
 pub mod Trees
 pub mod Bits
 pub mod SetLaws
+pub mod Substrings

@@ -1,3 +1,5 @@
+pub mod Queries
+pub mod Names
 pub mod Logic
 pub mod Kleene
 pub mod Tree
