@@ -3,3 +3,4 @@ pub mod Trees
 pub mod Bits
 pub mod SetLaws
 pub mod Substrings
+pub mod FirstFits

@@ -6,3 +6,4 @@ pub mod Tree
 pub mod Stack
 pub mod Evaluation
 pub mod NumberSets
+pub mod Rosters

@@ -8,3 +8,4 @@ pub mod name_matcher;
 pub mod nodes;
 pub mod number_set;
 pub mod queries;
+pub mod roster;

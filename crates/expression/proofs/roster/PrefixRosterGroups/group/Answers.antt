@@ -1,0 +1,28 @@
+use mathlib.Core.Path.{_≡_, sym, _∙_}
+use mathlib.Core.Bool.{true, false}
+use Rattle.std.proofs.shelf.Lists.{at-drop-all}
+use Rattle.expression.specs.Queries.{testOf}
+use Rattle.expression.specs.Rosters.{prefixFits, firstFit}
+use Rattle.expression.specs.declared.roster.PrefixRow.{PrefixRow}
+use Rattle.expression.proofs.FirstFits.{first-on}
+use Rattle.expression.proofs.roster.PrefixRosterGroups.group.Needs as need
+
+none : PrefixRow
+none = record { prefix = record { start = 0; length = 0 }; group = 0 }
+
+pub returns-then-prefix-fits : need.returns-then-prefix-fits
+unfolding none
+returns-then-prefix-fits c =
+    let s = c .args .self .now in
+    first-on (prefixFits (s .text .now) (testOf (c .args .query .now))) (λ row. row .group) (s .rows .now) (c .loop-row .row-index) none true (c .loop-row-test .taken) (c .if-prefix-fits .ensures tt) ∙ c .loop-row .inv
+
+pub loop-row-again : need.loop-row-again
+unfolding none
+loop-row-again c =
+    let s = c .args .self .now in
+    first-on (prefixFits (s .text .now) (testOf (c .args .query .now))) (λ row. row .group) (s .rows .now) (c .loop-row .row-index) none false (c .loop-row-test .taken) (c .if-prefix-fits .ensures tt) ∙ c .loop-row .inv
+
+pub returns : need.returns
+returns c =
+    let s = c .args .self .now in
+    sym (at-drop-all (firstFit (prefixFits (s .text .now) (testOf (c .args .query .now))) (λ row. row .group)) (s .rows .now) (c .loop-row .row-index) (c .loop-row-test .left)) ∙ c .loop-row .inv
