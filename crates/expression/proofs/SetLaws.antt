@@ -1,19 +1,19 @@
 -- What a set has, however many words it has.
 use mathlib.Core.Path.{_≡_, refl, sym, ap, _∙_}
 use mathlib.Core.Bool.{Bool, true, false, not, cond, _&&_, _||_}
-use mathlib.Core.List.{List, [], _∷_}
+use mathlib.Core.List.{List, [], _∷_, _++_}
 use mathlib.Core.Logic.{_⊎_, inl, inr, _≢_}
 use Prim.Native.Nat.{ℕ, zero, suc, _+_, _-_, _*_, _/_, _%_, _^_, _<_, _≤_}
 use native.Mathlib.Omega.{arith}
 use native.Mathlib.Numerals.{add-one}
 use lib.Bits.{bitOr}
 use lib.Dec.{eqb, ltb}
-use lib.ListN.{length, getD, set, replicate}
+use lib.ListN.{length, getD, set, take, drop, replicate}
 use Rattle.std.proofs.shelf.Bits.{div-add-mod', mod-below, div-below}
 use Rattle.std.specs.Orderings.{Decides}
-use Rattle.std.proofs.shelf.Lists.{getD-set-same, getD-set-other, length-set, length-replicate, getD-replicate, getD-past, set-past}
+use Rattle.std.proofs.shelf.Lists.{getD-set-same, getD-set-other, length-set, length-replicate, getD-replicate, getD-past, set-past, length-take-le, drop-more, getD-at, set-at, append-assoc, append-nil, take-more, take-all, drop-all}
 use Rattle.std.proofs.shelf.Tests.{cases-eq, cases-lt, eq-eqb, ne-eqb, eqb-true, lt-ltb, le-ltb, cond-true, cond-false, cases-order, and-parts, false≢true}
-use Rattle.expression.specs.NumberSets.{bit, member, inserted, void, gathered, setOf, someBelow, SetLaws}
+use Rattle.expression.specs.NumberSets.{bit, member, inserted, united, void, gathered, setOf, someBelow, SetLaws}
 use Rattle.expression.proofs.Bits.{bit-or, bit-zero, bit-one, none-zero}
 
 or-swap : (a b : Bool) → (a || b) ≡ (b || a)
@@ -204,11 +204,47 @@ word-member ws i l h =
       let q : (64 * i + j) / 64 ≡ i = omega arith in let r : (64 * i + j) % 64 ≡ j = omega arith in
       sym (ap (λ (x : ℕ). bit (getD ws x 0) ((64 * i + j) % 64)) q ∙ ap (bit (getD ws i 0)) r) ∙ h (64 * i + j))
 
+-- two sets together, word by word
+getD-united : (ws vs : List ℕ) (i : ℕ) → length ws ≡ length vs → bitOr (getD ws i 0) (getD vs i 0) ≡ getD (united ws vs) i 0
+getD-united [] [] i e = refl
+getD-united [] (v ∷ vs) i e = absurd (omega arith)
+getD-united (w ∷ ws) [] i e = absurd (omega arith)
+getD-united (w ∷ ws) (v ∷ vs) zero e = refl
+getD-united (w ∷ ws) (v ∷ vs) (suc i) e = getD-united ws vs i (omega arith)
+
+pub member-united : (ws vs : List ℕ) (n : ℕ) → length ws ≡ length vs → member (united ws vs) n ≡ (member ws n || member vs n)
+member-united ws vs n e =
+    ap (λ (w : ℕ). bit w (n % 64)) (sym (getD-united ws vs (n / 64) e)) ∙ bit-or (getD ws (n / 64) 0) (getD vs (n / 64) 0) (n % 64)
+
+length-united : (ws vs : List ℕ) → length (united ws vs) ≡ length ws
+length-united [] vs = refl
+length-united (w ∷ ws) [] = refl
+length-united (w ∷ ws) (v ∷ vs) = ap suc (length-united ws vs)
+
+-- one more word, and all words
+pub united-more : (ws vs : List ℕ) (i : ℕ) (now : List ℕ) → i < length ws → length ws ≡ length vs → now ≡ take i (united ws vs) ++ drop i ws → set now i (bitOr (getD now i 0) (getD vs i 0)) ≡ take (i + 1) (united ws vs) ++ drop (i + 1) ws
+united-more ws vs i now l e h =
+    let n = length-united ws vs in
+    let front : length (take i (united ws vs)) ≡ i = length-take-le i (united ws vs) (omega arith) in
+    let is : now ≡ take i (united ws vs) ++ (getD ws i 0 ∷ drop (i + 1) ws) = h ∙ ap (λ (z : List ℕ). take i (united ws vs) ++ z) (drop-more ws i 0 l) in
+    let old : getD now i 0 ≡ getD ws i 0 = ap (λ (z : List ℕ). getD z i 0) is ∙ getD-at (take i (united ws vs)) (getD ws i 0) (drop (i + 1) ws) 0 i front in
+    ap (λ (z : List ℕ). set z i (bitOr (getD now i 0) (getD vs i 0))) is
+    ∙ set-at (take i (united ws vs)) (getD ws i 0) (drop (i + 1) ws) (bitOr (getD now i 0) (getD vs i 0)) i front
+    ∙ ap (λ (w : ℕ). take i (united ws vs) ++ (w ∷ drop (i + 1) ws)) (ap (λ (w : ℕ). bitOr w (getD vs i 0)) old ∙ getD-united ws vs i e)
+    ∙ sym (append-assoc (take i (united ws vs)) (getD (united ws vs) i 0 ∷ []) (drop (i + 1) ws))
+    ∙ ap (λ (z : List ℕ). z ++ drop (i + 1) ws) (sym (take-more (united ws vs) i 0 (omega arith)))
+
+pub united-all : (ws vs : List ℕ) (i : ℕ) (now : List ℕ) → length ws ≤ i → now ≡ take i (united ws vs) ++ drop i ws → now ≡ united ws vs
+united-all ws vs i now l h =
+    h ∙ ap (λ (z : List ℕ). take i (united ws vs) ++ z) (drop-all i ws l) ∙ append-nil (take i (united ws vs))
+    ∙ take-all i (united ws vs) (omega (arith, length-united ws vs))
+
 pub set-laws : SetLaws
 set-laws = record {
     none-in = member-none;
     outside = member-past;
     one-more = λ ws n m l. member-inserted ws n m (word-for ws n l);
     no-more = inserted-past;
+    together = member-united;
     passing = member-setOf;
     empty = void-setOf }

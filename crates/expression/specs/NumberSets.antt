@@ -28,6 +28,12 @@ member ws n = bit (getD ws (n / 64) 0) (n % 64)
 abbrev pub inserted : List ℕ → ℕ → List ℕ
 inserted ws n = set ws (n / 64) (bitOr (getD ws (n / 64) 0) (2 ^ (n % 64)))
 
+-- the numbers of two sets, in as many words as the first has
+abbrev pub united : List ℕ → List ℕ → List ℕ
+united [] vs = []
+united (w ∷ ws) [] = w ∷ ws
+united (w ∷ ws) (v ∷ vs) = bitOr w v ∷ united ws vs
+
 -- the set of no number
 abbrev pub noNumbers : ℕ → List ℕ
 noNumbers w = replicate w 0
@@ -61,6 +67,8 @@ pub record SetLaws : Type 0 where
   pub one-more : (ws : List ℕ) (n m : ℕ) → n < 64 * length ws → member (inserted ws n) m ≡ (eqb n m || member ws m)
   -- a number that no word is for changes nothing
   pub no-more : (ws : List ℕ) (n : ℕ) → 64 * length ws ≤ n → inserted ws n ≡ ws
+  -- n is in two sets of equally many words together exactly when it is in one of them
+  pub together : (ws vs : List ℕ) (n : ℕ) → length ws ≡ length vs → member (united ws vs) n ≡ (member ws n || member vs n)
   -- k is in the set of those below n that pass exactly when it is below n and passes
   pub passing : (w : ℕ) (p : ℕ → Bool) (n k : ℕ) → n ≤ 64 * w → member (setOf w p n) k ≡ (ltb k n && p k)
   -- that set is empty exactly when none below n passes

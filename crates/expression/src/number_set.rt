@@ -7,10 +7,13 @@ ghost use mathlib.Core.Bool.{false, _&&_, _||_};
 ghost use Prim.Native.Nat.{ℕ, _≤_};
 ghost use lib.Dec.{eqb, ltb};
 ghost use Rattle.std.specs.Orderings.{Decides};
-ghost use Rattle.expression.specs.NumberSets.{width, size, member, inserted, noNumbers, void, SetLaws};
+ghost use Rattle.expression.specs.NumberSets.{width, size, member, inserted, united, noNumbers, void, SetLaws};
 
 // How many words of 64 bits a set has.
 const WORDS: usize = 1;
+
+// The numbers of a set lie below this one.
+pub const SIZE: usize = 64 * WORDS;
 
 // A set of numbers below 64.
 #[derive(Clone, Copy)]
@@ -35,6 +38,16 @@ impl NumberSet {
     {
         if n / 64 < WORDS {
             self.words[n / 64] |= 1 << (n % 64);
+        }
+    }
+
+    // Adds the numbers of another set.
+    pub(crate) fn unite(&mut self, other: &NumberSet)
+        ensures words { λ _. ⌜ now (self .exit) .words ≡ united (now (self .entry) .words) (now (other .entry) .words) ⌝ }
+        ensures members { λ _. ⌜ ((n : ℕ) → member (now (self .exit) .words) n ≡ (member (now (self .entry) .words) n || member (now (other .entry) .words) n)) ⌝ }
+    {
+        for i in 0..WORDS {
+            self.words[i] |= other.words[i];
         }
     }
 
