@@ -7,3 +7,5 @@ pub mod Stack
 pub mod Evaluation
 pub mod NumberSets
 pub mod Rosters
+pub mod Dependencies
+pub mod Oracles

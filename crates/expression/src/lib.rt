@@ -7,5 +7,6 @@ pub mod logic;
 pub mod name_matcher;
 pub mod nodes;
 pub mod number_set;
+pub mod oracle;
 pub mod queries;
 pub mod roster;
