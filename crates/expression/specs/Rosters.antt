@@ -1,9 +1,11 @@
 -- What the two rosters mean: rows in their order, with names as places in one text.
-use mathlib.Core.Bool.{Bool, false, cond, _&&_}
-use mathlib.Core.List.{List, [], _∷_}
+use mathlib.Core.Path.{_≡_}
+use mathlib.Core.Bool.{Bool, true, false, cond, _&&_}
+use mathlib.Core.List.{List, [], _∷_, _++_}
 use Prim.Native.Nat.{ℕ}
 use Rattle.std.specs.declared.option.Option.{Option}
 use Rattle.std.specs.declared.option.Option.the-variants.{Some, None}
+use Rattle.std.specs.shelf.Lists.{All}
 use Rattle.glob.specs.Parts.{partOf, stands}
 use Rattle.expression.specs.Names.{begins}
 use Rattle.expression.specs.Queries.{Test}
@@ -14,6 +16,11 @@ use Rattle.expression.specs.declared.roster.PrefixRow.{PrefixRow}
 abbrev pub firstFit : {R : Type 0} → (R → Bool) → (R → ℕ) → List R → ℕ
 firstFit fits number [] = 0
 firstFit fits number (row ∷ rows) = cond (fits row) (number row) (firstFit fits number rows)
+
+-- the first row that fits decides, and where none fits the number is 0
+pub record FirstDecides {R : Type 0} (fits : R → Bool) (number : R → ℕ) (rows : List R) (n : ℕ) : Type 0 where
+  pub first : (before : List R) (row : R) (after : List R) → rows ≡ before ++ row ∷ after → All (λ x. fits x ≡ false) before → fits row ≡ true → n ≡ number row
+  pub none : All (λ x. fits x ≡ false) rows → n ≡ 0
 
 -- the test's binary id and its name stand at the row's places
 abbrev pub rowFits : List ℕ → Test → TestRow → Bool

@@ -6,7 +6,7 @@ ghost use mathlib.Core.Path.{_≡_};
 ghost use Prim.Native.Nat.{ℕ};
 ghost use denote.Ref.{now as held};
 ghost use Rattle.expression.specs.Queries.{Test, testOf};
-ghost use Rattle.expression.specs.Rosters.{rowFits, leads, prefixFits, testGroup, prefixGroup};
+ghost use Rattle.expression.specs.Rosters.{rowFits, leads, prefixFits, testGroup, prefixGroup, FirstDecides};
 use crate::name_matcher::begins_with;
 use crate::queries::TestQuery;
 use glob::place::Place;
@@ -43,7 +43,10 @@ fn row_fits(text: &[u8], row: TestRow, query: &TestQuery<'_>) -> bool
 pub impl Roster for TestRoster<'_> as TestRosterGroups {
     ghost groups = { λ s. testGroup (held (s .text)) (held (s .rows)) };
 
-    fn group(&self, query: &TestQuery<'_>) -> usize {
+    fn group(&self, query: &TestQuery<'_>) -> usize
+        ensures value { λ r. ⌜ r ≡ testGroup (now (now (self .entry) .text)) (now (now (self .entry) .rows)) (testOf (now (query .entry))) ⌝ }
+        ensures first { λ r. ⌜ FirstDecides (rowFits (now (now (self .entry) .text)) (testOf (now (query .entry)))) (λ row. row .group) (now (now (self .entry) .rows)) r ⌝ }
+    {
         for row in self.rows {
             if row_fits(self.text, *row, query) {
                 return row.group;
@@ -79,7 +82,10 @@ fn prefix_fits(text: &[u8], row: PrefixRow, query: &TestQuery<'_>) -> bool
 pub impl Roster for PrefixRoster<'_> as PrefixRosterGroups {
     ghost groups = { λ s. prefixGroup (held (s .text)) (held (s .rows)) };
 
-    fn group(&self, query: &TestQuery<'_>) -> usize {
+    fn group(&self, query: &TestQuery<'_>) -> usize
+        ensures value { λ r. ⌜ r ≡ prefixGroup (now (now (self .entry) .text)) (now (now (self .entry) .rows)) (testOf (now (query .entry))) ⌝ }
+        ensures first { λ r. ⌜ FirstDecides (prefixFits (now (now (self .entry) .text)) (testOf (now (query .entry)))) (λ row. row .group) (now (now (self .entry) .rows)) r ⌝ }
+    {
         for row in self.rows {
             if prefix_fits(self.text, *row, query) {
                 return row.group;

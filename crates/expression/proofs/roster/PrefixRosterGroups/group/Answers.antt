@@ -4,7 +4,7 @@ use Rattle.std.proofs.shelf.Lists.{at-drop-all}
 use Rattle.expression.specs.Queries.{testOf}
 use Rattle.expression.specs.Rosters.{prefixFits, firstFit}
 use Rattle.expression.specs.declared.roster.PrefixRow.{PrefixRow}
-use Rattle.expression.proofs.FirstFits.{first-on}
+use Rattle.expression.proofs.FirstFits.{first-on, first-decides}
 use Rattle.expression.proofs.roster.PrefixRosterGroups.group.Needs as need
 
 none : PrefixRow
@@ -14,7 +14,8 @@ pub returns-then-prefix-fits : need.returns-then-prefix-fits
 unfolding none
 returns-then-prefix-fits c =
     let s = c .args .self .now in
-    first-on (prefixFits (s .text .now) (testOf (c .args .query .now))) (λ row. row .group) (s .rows .now) (c .loop-row .row-index) none true (c .loop-row-test .taken) (c .if-prefix-fits .ensures tt) ∙ c .loop-row .inv
+    let e = first-on (prefixFits (s .text .now) (testOf (c .args .query .now))) (λ row. row .group) (s .rows .now) (c .loop-row .row-index) none true (c .loop-row-test .taken) (c .if-prefix-fits .ensures tt) ∙ c .loop-row .inv in
+    record { value = e; first = first-decides (prefixFits (s .text .now) (testOf (c .args .query .now))) (λ row. row .group) (s .rows .now) _ e }
 
 pub loop-row-again : need.loop-row-again
 unfolding none
@@ -25,4 +26,5 @@ loop-row-again c =
 pub returns : need.returns
 returns c =
     let s = c .args .self .now in
-    sym (at-drop-all (firstFit (prefixFits (s .text .now) (testOf (c .args .query .now))) (λ row. row .group)) (s .rows .now) (c .loop-row .row-index) (c .loop-row-test .left)) ∙ c .loop-row .inv
+    let e = sym (at-drop-all (firstFit (prefixFits (s .text .now) (testOf (c .args .query .now))) (λ row. row .group)) (s .rows .now) (c .loop-row .row-index) (c .loop-row-test .left)) ∙ c .loop-row .inv in
+    record { value = e; first = first-decides (prefixFits (s .text .now) (testOf (c .args .query .now))) (λ row. row .group) (s .rows .now) _ e }

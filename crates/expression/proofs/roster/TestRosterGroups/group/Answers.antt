@@ -4,7 +4,7 @@ use Rattle.std.proofs.shelf.Lists.{at-drop-all}
 use Rattle.expression.specs.Queries.{testOf}
 use Rattle.expression.specs.Rosters.{rowFits, firstFit}
 use Rattle.expression.specs.declared.roster.TestRow.{TestRow}
-use Rattle.expression.proofs.FirstFits.{first-on}
+use Rattle.expression.proofs.FirstFits.{first-on, first-decides}
 use Rattle.expression.proofs.roster.TestRosterGroups.group.Needs as need
 
 none : TestRow
@@ -14,7 +14,8 @@ pub returns-then-row-fits : need.returns-then-row-fits
 unfolding none
 returns-then-row-fits c =
     let s = c .args .self .now in
-    first-on (rowFits (s .text .now) (testOf (c .args .query .now))) (λ row. row .group) (s .rows .now) (c .loop-row .row-index) none true (c .loop-row-test .taken) (c .if-row-fits .ensures tt) ∙ c .loop-row .inv
+    let e = first-on (rowFits (s .text .now) (testOf (c .args .query .now))) (λ row. row .group) (s .rows .now) (c .loop-row .row-index) none true (c .loop-row-test .taken) (c .if-row-fits .ensures tt) ∙ c .loop-row .inv in
+    record { value = e; first = first-decides (rowFits (s .text .now) (testOf (c .args .query .now))) (λ row. row .group) (s .rows .now) _ e }
 
 pub loop-row-again : need.loop-row-again
 unfolding none
@@ -25,4 +26,5 @@ loop-row-again c =
 pub returns : need.returns
 returns c =
     let s = c .args .self .now in
-    sym (at-drop-all (firstFit (rowFits (s .text .now) (testOf (c .args .query .now))) (λ row. row .group)) (s .rows .now) (c .loop-row .row-index) (c .loop-row-test .left)) ∙ c .loop-row .inv
+    let e = sym (at-drop-all (firstFit (rowFits (s .text .now) (testOf (c .args .query .now))) (λ row. row .group)) (s .rows .now) (c .loop-row .row-index) (c .loop-row-test .left)) ∙ c .loop-row .inv in
+    record { value = e; first = first-decides (rowFits (s .text .now) (testOf (c .args .query .now))) (λ row. row .group) (s .rows .now) _ e }
