@@ -27,5 +27,6 @@ module _ {R : Type 0} (fits : R → Bool) (number : R → ℕ) where
 
   pub first-decides : (rows : List R) (n : ℕ) → n ≡ firstFit fits number rows → FirstDecides fits number rows n
   first-decides rows n e = record {
-      first = λ before row after is h f. e ∙ ap (firstFit fits number) is ∙ first-at before row after h f;
-      none = λ h. e ∙ none-fits rows h }
+    first = λ before row after is h f. e ∙ ap (firstFit fits number) is ∙ first-at before row after h f;
+    none = λ h. e ∙ none-fits rows h;
+  }

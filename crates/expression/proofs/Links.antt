@@ -122,8 +122,9 @@ edge-kept e was r1 r2 r3 h k p q r a b =
 pub edge-skipped : (e : Edge) (rows : List NumberSet) → (size ≤ e .from) ⊎ (size ≤ e .to) → (a b : ℕ) → link rows a b ≡ (link rows a b || edgeLinks e a b)
 edge-skipped e rows w a b =
     let bad : within e ≡ false = elim w [
-          inl h ↦ and-left (ltb (e .from) size) (ltb (e .to) size) (le-ltb (e .from) size h)
-        | inr h ↦ and-right (ltb (e .from) size) (ltb (e .to) size) (le-ltb (e .to) size h) ] in
+      | inl h ↦ and-left (ltb (e .from) size) (ltb (e .to) size) (le-ltb (e .from) size h)
+      | inr h ↦ and-right (ltb (e .from) size) (ltb (e .to) size) (le-ltb (e .to) size h)
+    ] in
     sym (or-no (link rows a b)) ∙ ap (λ (v : Bool). link rows a b || v) (sym (and-left (within e) _ bad))
 
 or-assoc : (x y z : Bool) → ((x || y) || z) ≡ (x || (y || z))

@@ -43,10 +43,12 @@ edge-sound e es a b q =
     let b = and-parts (ltb (e .from) size) (ltb (e .to) size) (w .0) in
     let k : Kept (e ∷ es) (e .from) (e .to) = first (ltb-true (e .from) size (b .0)) (ltb-true (e .to) size (b .1)) in
     elim (or-cases (x || y) z (w .1)) [
-      inl h ↦ elim (or-cases x y h) [
-        inl i ↦ moved (e ∷ es) (e .from) (e .from) _ _ i (itself (source k))
-      | inr i ↦ moved (e ∷ es) (e .from) (e .to) _ _ i (along k (itself (target k))) ]
-    | inr h ↦ moved (e ∷ es) (e .to) (e .to) _ _ h (itself (target k)) ]
+      | inl h ↦ elim (or-cases x y h) [
+        | inl i ↦ moved (e ∷ es) (e .from) (e .from) _ _ i (itself (source k))
+        | inr i ↦ moved (e ∷ es) (e .from) (e .to) _ _ i (along k (itself (target k)))
+      ]
+      | inr h ↦ moved (e ∷ es) (e .to) (e .to) _ _ h (itself (target k))
+    ]
 
 pub directly-sound : (es : List Edge) (a b : ℕ) → directly es a b ≡ true → Reaches es a b
 directly-sound [] a b q = absurd (both-ways false refl q)
@@ -67,19 +69,21 @@ kept-marks (first {e} {es} h k) =
     let ft : (ltb f size && ltb t size) ≡ true = and-from (ltb f size) (ltb t size) (lt-ltb f size h) (lt-ltb t size k) in
     record {
       pair = or-left (edgeLinks e f t) (directly es f t) (and-from (ltb f size && ltb t size) _ ft
-        (or-left ((eqb f f && eqb f t) || (eqb f f && eqb t t)) (eqb t f && eqb t t) (or-right (eqb f f && eqb f t) (eqb f f && eqb t t) (and-from (eqb f f) (eqb t t) (same f) (same t)))));
+          (or-left ((eqb f f && eqb f t) || (eqb f f && eqb t t)) (eqb t f && eqb t t) (or-right (eqb f f && eqb f t) (eqb f f && eqb t t) (and-from (eqb f f) (eqb t t) (same f) (same t)))));
       start = or-left (edgeLinks e f f) (directly es f f) (and-from (ltb f size && ltb t size) _ ft
-        (or-left ((eqb f f && eqb f f) || (eqb f f && eqb t f)) (eqb t f && eqb t f) (or-left (eqb f f && eqb f f) (eqb f f && eqb t f) (and-from (eqb f f) (eqb f f) (same f) (same f)))));
+          (or-left ((eqb f f && eqb f f) || (eqb f f && eqb t f)) (eqb t f && eqb t f) (or-left (eqb f f && eqb f f) (eqb f f && eqb t f) (and-from (eqb f f) (eqb f f) (same f) (same f)))));
       stop = or-left (edgeLinks e t t) (directly es t t) (and-from (ltb f size && ltb t size) _ ft
-        (or-right ((eqb f t && eqb f t) || (eqb f t && eqb t t)) (eqb t t && eqb t t) (and-from (eqb t t) (eqb t t) (same t) (same t))));
-      below = k }
+          (or-right ((eqb f t && eqb f t) || (eqb f t && eqb t t)) (eqb t t && eqb t t) (and-from (eqb t t) (eqb t t) (same t) (same t))));
+      below = k;
+    }
 kept-marks (later {e} {es} {a} {b} k) =
     let m = kept-marks k in
     record {
       pair = or-right (edgeLinks e a b) (directly es a b) (m .pair);
       start = or-right (edgeLinks e a a) (directly es a a) (m .start);
       stop = or-right (edgeLinks e b b) (directly es b b) (m .stop);
-      below = m .below }
+      below = m .below;
+    }
 
 known-marks : {es : List Edge} {a : ℕ} → Known es a → directly es a a ≡ true
 known-marks (source k) = kept-marks k .start
@@ -88,9 +92,10 @@ known-marks (target k) = kept-marks k .stop
 module _ (es : List Edge) where
   pub through-none : (rows : List NumberSet) → Direct es rows → Through es 0 rows
   through-none rows d = record {
-      sound = λ a b q. directly-sound es a b (sym (d a b) ∙ q);
-      direct = λ a b q. d a b ∙ q;
-      closed = λ m a b h. absurd (omega arith) }
+    sound = λ a b q. directly-sound es a b (sym (d a b) ∙ q);
+    direct = λ a b q. d a b ∙ q;
+    closed = λ m a b h. absurd (omega arith);
+  }
 
   pub through-all : (rows : List NumberSet) → Through es size rows → Closure es rows
   through-all rows t a b = (t .sound a b, whole)
@@ -111,8 +116,9 @@ module _ (es : List Edge) where
 
     below : (m i j : ℕ) → m < k → link now i m ≡ true → link now m j ≡ true → link now i j ≡ true
     below m i j h p q = elim (parts i m p) [
-        inl a ↦ elim (parts m j q) [ inl b ↦ old i j (t .closed m i j h a b) | inr b ↦ new i j (t .closed m i k h a (b .0)) (b .1) ]
-      | inr a ↦ elim (parts m j q) [ inl b ↦ new i j (a .0) (t .closed m k j h (a .1) b) | inr b ↦ new i j (a .0) (b .1) ] ]
+      | inl a ↦ elim (parts m j q) [ inl b ↦ old i j (t .closed m i j h a b) | inr b ↦ new i j (t .closed m i k h a (b .0)) (b .1) ]
+      | inr a ↦ elim (parts m j q) [ inl b ↦ new i j (a .0) (t .closed m k j h (a .1) b) | inr b ↦ new i j (a .0) (b .1) ]
+    ]
 
     to-k : (i : ℕ) → link now i k ≡ true → link was i k ≡ true
     to-k i p = elim (parts i k p) [ inl a ↦ a | inr a ↦ a .0 ]
@@ -131,9 +137,10 @@ module _ (es : List Edge) where
 
     pub through-next : Through es (k + 1) now
     through-next = record {
-        sound = λ a b q. elim (parts a b q) [ inl h ↦ t .sound a b h | inr h ↦ trans (t .sound a k (h .0)) (t .sound k b (h .1)) ];
-        direct = λ a b q. old a b (t .direct a b q);
-        closed = closes }
+      sound = λ a b q. elim (parts a b q) [ inl h ↦ t .sound a b h | inr h ↦ trans (t .sound a k (h .0)) (t .sound k b (h .1)) ];
+      direct = λ a b q. old a b (t .direct a b q);
+      closed = closes;
+    }
 
   pub through-more : (k : ℕ) (was now : List NumberSet) → Joined was k now → Through es k was → Through es (k + 1) now
   through-more k was now g t = through-next k was now t g

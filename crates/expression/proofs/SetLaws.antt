@@ -201,8 +201,8 @@ member-insert ws n m = by (cases-lt n (64 * length ws))
 pub word-member : (ws : List ℕ) (i : ℕ) → getD ws i 0 < 2 ^ 64 → ((n : ℕ) → member ws n ≡ false) → getD ws i 0 ≡ 0
 word-member ws i l h =
     none-zero 64 (getD ws i 0) l (λ j b.
-      let q : (64 * i + j) / 64 ≡ i = omega arith in let r : (64 * i + j) % 64 ≡ j = omega arith in
-      sym (ap (λ (x : ℕ). bit (getD ws x 0) ((64 * i + j) % 64)) q ∙ ap (bit (getD ws i 0)) r) ∙ h (64 * i + j))
+    let q : (64 * i + j) / 64 ≡ i = omega arith in let r : (64 * i + j) % 64 ≡ j = omega arith in
+    sym (ap (λ (x : ℕ). bit (getD ws x 0) ((64 * i + j) % 64)) q ∙ ap (bit (getD ws i 0)) r) ∙ h (64 * i + j))
 
 -- two sets together, word by word
 getD-united : (ws vs : List ℕ) (i : ℕ) → length ws ≡ length vs → bitOr (getD ws i 0) (getD vs i 0) ≡ getD (united ws vs) i 0
@@ -241,10 +241,11 @@ united-all ws vs i now l h =
 
 pub set-laws : SetLaws
 set-laws = record {
-    none-in = member-none;
-    outside = member-past;
-    one-more = λ ws n m l. member-inserted ws n m (word-for ws n l);
-    no-more = inserted-past;
-    together = member-united;
-    passing = member-setOf;
-    empty = void-setOf }
+  none-in = member-none;
+  outside = member-past;
+  one-more = λ ws n m l. member-inserted ws n m (word-for ws n l);
+  no-more = inserted-past;
+  together = member-united;
+  passing = member-setOf;
+  empty = void-setOf;
+}

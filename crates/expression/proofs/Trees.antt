@@ -46,13 +46,15 @@ module _ {T L : Type 0} (o : Ops L) (f : T → L) (room : ℕ) where
   runs-short (intersection t u) rest s w =
       ap (λ (z : List (Node T)). runs o f room z s) (two-ops t u And rest)
       ∙ elim (cases-lt room (length s + places t)) [
-          inl l ↦ runs-short t (postfix u ++ And ∷ rest) s l
-        | inr l ↦ runs-tree t (postfix u ++ And ∷ rest) s l ∙ runs-short u (And ∷ rest) (value o f t ∷ s) (omega arith) ]
+        | inl l ↦ runs-short t (postfix u ++ And ∷ rest) s l
+        | inr l ↦ runs-tree t (postfix u ++ And ∷ rest) s l ∙ runs-short u (And ∷ rest) (value o f t ∷ s) (omega arith)
+      ]
   runs-short (union t u) rest s w =
       ap (λ (z : List (Node T)). runs o f room z s) (two-ops t u Or rest)
       ∙ elim (cases-lt room (length s + places t)) [
-          inl l ↦ runs-short t (postfix u ++ Or ∷ rest) s l
-        | inr l ↦ runs-tree t (postfix u ++ Or ∷ rest) s l ∙ runs-short u (Or ∷ rest) (value o f t ∷ s) (omega arith) ]
+        | inl l ↦ runs-short t (postfix u ++ Or ∷ rest) s l
+        | inr l ↦ runs-tree t (postfix u ++ Or ∷ rest) s l ∙ runs-short u (Or ∷ rest) (value o f t ∷ s) (omega arith)
+      ]
 
   -- the nodes of the trees on a stack, its top first
   laid : List (Tree T) → List (Node T)
@@ -106,15 +108,17 @@ module _ {T L : Type 0} (o : Ops L) (f : T → L) (room : ℕ) where
   sure xs (Some v) e =
       let p = tree-of xs [] [] v refl (sym e) in
       elim (cases-lt room (places (p .0))) [
-        inl l ↦ absurd (none-some (sym (short (p .0) xs (p .1) l) ∙ sym e))
-      | inr l ↦ (p .0, p .1, l) ]
+        | inl l ↦ absurd (none-some (sym (short (p .0) xs (p .1) l) ∙ sym e))
+        | inr l ↦ (p .0, p .1, l)
+      ]
 
   -- what holds of the tree's value holds of the result
   carried : (P : L → Type 0) (t : Tree T) (xs : List (Node T)) (r : Option L) → r ≡ runs o f room xs [] → postfix t ≡ xs → P (value o f t) → found r P
   carried P t xs r e h p =
       elim (cases-lt room (places t)) [
-        inl l ↦ subst (λ (z : Option L). found z P) (sym (e ∙ short t xs h l)) tt
-      | inr l ↦ subst (λ (z : Option L). found z P) (sym (e ∙ whole t xs h l)) p ]
+        | inl l ↦ subst (λ (z : Option L). found z P) (sym (e ∙ short t xs h l)) tt
+        | inr l ↦ subst (λ (z : Option L). found z P) (sym (e ∙ whole t xs h l)) p
+      ]
 
 -- a tree of n nodes needs at most half of n + 1 places
 halves : {T : Type 0} (t : Tree T) → (1 ≤ places t) × (2 * places t ≤ length (postfix t) + 1)
@@ -143,7 +147,8 @@ fitting laws f b (union t u) h = laws .either-fits _ _ _ _ (fitting laws f b t (
 -- what the nodes come to is what an evaluation answers
 pub evaluated : {T L : Type 0} {o : Ops L} {fits : L → Bool → Type 0} (f : T → L) (nodes : List (Node T)) (room : ℕ) (r : Option L) → Laws o fits → r ≡ runs o f room nodes [] → Evaluation o fits f nodes room r
 evaluated {T} {L} {o} {fits} f nodes room r laws e = record {
-    value-of = λ t h w. e ∙ whole o f room t nodes h w;
-    only = sure o f room nodes r e;
-    enough = λ t h l w. e ∙ whole o f room t nodes h (places-96 t nodes room h l w);
-    fitting = λ b t h each. carried o f room (λ v. fits v (value truth b t)) t nodes r e h (fitting laws f b t each) }
+  value-of = λ t h w. e ∙ whole o f room t nodes h w;
+  only = sure o f room nodes r e;
+  enough = λ t h l w. e ∙ whole o f room t nodes h (places-96 t nodes room h l w);
+  fitting = λ b t h each. carried o f room (λ v. fits v (value truth b t)) t nodes r e h (fitting laws f b t each);
+}

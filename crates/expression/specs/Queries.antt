@@ -22,11 +22,12 @@ pub record Test : Type 0 where
 -- the binary that a query asks about
 abbrev pub binaryOf : BinaryQuery → Binary
 binaryOf q = record {
-    in-package = q .«package»;
-    id = now (q .«binary_id»);
-    name = now (q .«binary_name»);
-    kind = now (q .kind);
-    platform = q .platform }
+  in-package = q .«package»;
+  id = now (q .«binary_id»);
+  name = now (q .«binary_name»);
+  kind = now (q .kind);
+  platform = q .platform;
+}
 
 -- the test that a query asks about
 abbrev pub testOf : TestQuery → Test

@@ -69,7 +69,11 @@ fn step<T: Copy, L: Logic + Copy, C: Leaves<T, L>>(
 }
 
 // The value of the tree that the nodes write down. None if they write down no tree, or if the stack has too few places for it.
-pub fn evaluate<T: Copy, L: Logic + Copy, C: Leaves<T, L>>(nodes: &[Node<T>], leaves: &C, stack: &mut [L]) -> Option<L>
+pub fn evaluate<T: Copy, L: Logic + Copy, C: Leaves<T, L>>(
+    nodes: &[Node<T>],
+    leaves: &C,
+    stack: &mut [L],
+) -> Option<L>
     ensures { λ r. ⌜ Evaluation ops fits (shows (now (leaves .entry))) (now (nodes .entry)) (length (now (stack .entry))) r ⌝ }
 {
     let mut n = 0;

@@ -28,14 +28,16 @@ loop-edge-again c =
     let e = getD es i none in
     let was = c .loop-edge .rows in let rows = c .if-from-lt-SIZE .rows in
     edge-next es i none was rows (c .loop-edge-test .taken) (c .loop-edge .inv) (elim (c .if-from-lt-SIZE .came) [
-      then-from-lt-SIZE·then-to-lt-SIZE w ↦ λ a b.
-        ap (λ (r : List NumberSet). link r a b) (w .rows-is)
-        ∙ edge-kept e was (w .link-to .last .rows) (w .link-to-then-to-lt-SIZE .last .rows) (w .link-to-then-to-lt-SIZE-2 .last .rows) (w .if-from-lt-SIZE .taken) (w .if-to-lt-SIZE .taken) (w .link-to .ensures) (w .link-to-then-to-lt-SIZE .ensures) (w .link-to-then-to-lt-SIZE-2 .ensures) a b
-    | else-from-lt-SIZE w ↦
-        let over : (size ≤ e .from) ⊎ (size ≤ e .to) = elim (w .else-from-lt-SIZE .came) [
-            else-from-lt-SIZE·by·then-from-lt-SIZE·else-to-lt-SIZE v ↦ inr (v .if-to-lt-SIZE .left)
-          | else-from-lt-SIZE·by·else-from-lt-SIZE v ↦ inl (v .if-from-lt-SIZE .left) ] in
-        λ a b. ap (λ (r : List NumberSet). link r a b) (w .rows-is) ∙ edge-skipped e was over a b ])
+      | then-from-lt-SIZE·then-to-lt-SIZE w ↦ λ a b.
+          ap (λ (r : List NumberSet). link r a b) (w .rows-is)
+          ∙ edge-kept e was (w .link-to .last .rows) (w .link-to-then-to-lt-SIZE .last .rows) (w .link-to-then-to-lt-SIZE-2 .last .rows) (w .if-from-lt-SIZE .taken) (w .if-to-lt-SIZE .taken) (w .link-to .ensures) (w .link-to-then-to-lt-SIZE .ensures) (w .link-to-then-to-lt-SIZE-2 .ensures) a b
+      | else-from-lt-SIZE w ↦
+          let over : (size ≤ e .from) ⊎ (size ≤ e .to) = elim (w .else-from-lt-SIZE .came) [
+            | else-from-lt-SIZE·by·then-from-lt-SIZE·else-to-lt-SIZE v ↦ inr (v .if-to-lt-SIZE .left)
+            | else-from-lt-SIZE·by·else-from-lt-SIZE v ↦ inl (v .if-from-lt-SIZE .left)
+          ] in
+          λ a b. ap (λ (r : List NumberSet). link r a b) (w .rows-is) ∙ edge-skipped e was over a b
+    ])
 
 pub returns : need.returns
 returns c a b =
