@@ -64,7 +64,7 @@ Closure es rows = (a b : ℕ) → Decides (link rows a b) (Reaches es a b)
 
 -- how many packages a table of bits knows: one for each row, and at most 64
 abbrev pub knownRows : List ℕ → ℕ
-knownRows rows = min (length rows) size
+knownRows rows = min (length rows) 64
 
 -- both packages are known, and bit b of row a is set
 abbrev pub tableDepends : List ℕ → ℕ → ℕ → Bool

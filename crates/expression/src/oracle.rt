@@ -85,6 +85,7 @@ pub struct Reachability {
 }
 
 impl Reachability {
+    // A package is known if it stands in an edge of two packages below 64, and other edges are skipped. A known package depends on itself and on what a chain of edges leads to.
     pub fn new(edges: &[Edge]) -> Self
         ensures closure { λ r. ⌜ Closure (now (edges .entry)) (r .rows) ⌝ }
         ensures known { λ r. ⌜ ((a b : ℕ) → link (r .rows) a b ≡ true → Known (now (edges .entry)) a × Known (now (edges .entry)) b) ⌝ }
@@ -105,6 +106,9 @@ pub impl DependencyOracle for Reachability as ReachabilityOracle {
     }
 }
 
+// How many packages a table of bits can know: a row has a bit for each.
+const ROW_BITS: usize = 64;
+
 // A table of bits: bit b of row a says that a depends on b. Rows past the first 64 are not used, and a number without a row is unknown.
 #[derive(Clone, Copy)]
 pub struct BitTable<'a> {
@@ -115,7 +119,7 @@ pub impl DependencyOracle for BitTable<'_> as BitTableOracle {
     ghost depends = { λ s. tableDepends (held (s .rows)) };
 
     fn depends_on(&self, a: usize, b: usize) -> bool {
-        let known = self.rows.len().min(SIZE);
+        let known = self.rows.len().min(ROW_BITS);
         a < known && b < known && (self.rows[a] >> b) % 2 == 1
     }
 }

@@ -86,9 +86,9 @@ pub impl Roster for PrefixRoster<'_> as PrefixRosterGroups {
         ensures value { λ r. ⌜ r ≡ prefixGroup (now (now (self .entry) .text)) (now (now (self .entry) .rows)) (testOf (now (query .entry))) ⌝ }
         ensures first { λ r. ⌜ FirstDecides (prefixFits (now (now (self .entry) .text)) (testOf (now (query .entry)))) (λ row. row .group) (now (now (self .entry) .rows)) r ⌝ }
     {
-        for row in self.rows {
-            if prefix_fits(self.text, *row, query) {
-                return row.group;
+        for prefix in self.rows {
+            if prefix_fits(self.text, *prefix, query) {
+                return prefix.group;
             }
         }
         0

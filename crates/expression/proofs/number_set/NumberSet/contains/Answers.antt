@@ -3,7 +3,7 @@ use Prim.Native.Nat.{ℕ, _*_, _/_, _%_, _≤_}
 use native.Mathlib.Omega.{arith}
 use lib.ListN.{length}
 use Rattle.std.proofs.shelf.Tests.{le-ltb}
-use Rattle.expression.specs.NumberSets.{bit}
+use Rattle.expression.specs.NumberSets.{bit, width}
 use Rattle.expression.proofs.SetLaws.{member-past}
 use Rattle.expression.proofs.number_set.NumberSet.contains.Needs as need
 
@@ -13,5 +13,5 @@ returns-then-n-lt-WORDS c = record { value = refl; outside = λ h. absurd (omega
 
 pub returns-else-n-lt-WORDS : need.returns-else-n-lt-WORDS
 returns-else-n-lt-WORDS c =
-    let no = le-ltb (c .args .n / 64) 1 (c .if-n-lt-WORDS .left) in
+    let no = le-ltb (c .args .n / 64) width (c .if-n-lt-WORDS .left) in
     record { value = no ∙ sym (member-past (c .args .self .now .words) (c .args .n) (omega arith)); outside = λ h. no }

@@ -24,3 +24,8 @@ returns c =
     let ws = c .args .self .now .words in let i = c .loop-w .w-index in
     let whole : true ≡ void ws = sym (at-drop-all void ws i (omega arith)) ∙ c .loop-w .inv in
     record { value = whole; members = (λ _ n. void-member ws n (sym whole), λ _. refl) }
+
+pub loop-w-again : need.loop-w-again
+loop-w-again c =
+    let ws = c .args .self .now .words in let i = c .loop-w .w-index in
+    sym (at-drop-more void ws i 0 (omega arith) ∙ ap (λ (b : Bool). b && void (drop (i + 1) ws)) (eq-eqb (getD ws i 0) 0 (c .if-w-ne0 .left))) ∙ c .loop-w .inv

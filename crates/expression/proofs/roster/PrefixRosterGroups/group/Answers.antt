@@ -14,17 +14,17 @@ pub returns-then-prefix-fits : need.returns-then-prefix-fits
 unfolding none
 returns-then-prefix-fits c =
     let s = c .args .self .now in
-    let e = first-on (prefixFits (s .text .now) (testOf (c .args .query .now))) (λ row. row .group) (s .rows .now) (c .loop-row .row-index) none true (c .loop-row-test .taken) (c .if-prefix-fits .ensures tt) ∙ c .loop-row .inv in
+    let e = first-on (prefixFits (s .text .now) (testOf (c .args .query .now))) (λ row. row .group) (s .rows .now) (c .loop-prefix .prefix-index) none true (c .loop-prefix-test .taken) (c .if-prefix-fits .ensures tt) ∙ c .loop-prefix .inv in
     record { value = e; first = first-decides (prefixFits (s .text .now) (testOf (c .args .query .now))) (λ row. row .group) (s .rows .now) _ e }
 
-pub loop-row-again : need.loop-row-again
+pub loop-prefix-again : need.loop-prefix-again
 unfolding none
-loop-row-again c =
+loop-prefix-again c =
     let s = c .args .self .now in
-    first-on (prefixFits (s .text .now) (testOf (c .args .query .now))) (λ row. row .group) (s .rows .now) (c .loop-row .row-index) none false (c .loop-row-test .taken) (c .if-prefix-fits .ensures tt) ∙ c .loop-row .inv
+    first-on (prefixFits (s .text .now) (testOf (c .args .query .now))) (λ row. row .group) (s .rows .now) (c .loop-prefix .prefix-index) none false (c .loop-prefix-test .taken) (c .if-prefix-fits .ensures tt) ∙ c .loop-prefix .inv
 
 pub returns : need.returns
 returns c =
     let s = c .args .self .now in
-    let e = sym (at-drop-all (firstFit (prefixFits (s .text .now) (testOf (c .args .query .now))) (λ row. row .group)) (s .rows .now) (c .loop-row .row-index) (c .loop-row-test .left)) ∙ c .loop-row .inv in
+    let e = sym (at-drop-all (firstFit (prefixFits (s .text .now) (testOf (c .args .query .now))) (λ row. row .group)) (s .rows .now) (c .loop-prefix .prefix-index) (c .loop-prefix-test .left)) ∙ c .loop-prefix .inv in
     record { value = e; first = first-decides (prefixFits (s .text .now) (testOf (c .args .query .now))) (λ row. row .group) (s .rows .now) _ e }

@@ -4,5 +4,5 @@ use Rattle.expression.specs.Queries.{testOf}
 use Rattle.expression.specs.Rosters.{prefixGroup}
 use Rattle.expression.proofs.roster.PrefixRosterGroups.group.Given as given
 
-abbrev pub Inv-loop-row : given.InvT-loop-row
-Inv-loop-row l = prefixGroup (l .self .text .now) (drop (l .row-index) (l .self .rows .now)) (testOf (l .query)) ≡ prefixGroup (l .self .text .now) (l .self .rows .now) (testOf (l .query))
+abbrev pub Inv-loop-prefix : given.InvT-loop-prefix
+Inv-loop-prefix l = prefixGroup (l .self .text .now) (drop (l .prefix-index) (l .self .rows .now)) (testOf (l .query)) ≡ prefixGroup (l .self .text .now) (l .self .rows .now) (testOf (l .query))
