@@ -97,7 +97,7 @@ module _ (es : List Edge) where
     closed = λ m a b h. absurd (omega arith);
   }
 
-  pub through-all : (rows : List NumberSet) → Through es size rows → Closure es rows
+  pub through-all : (rows : List NumberSet) → Through es size rows → Closure es (record { rows = rows })
   through-all rows t a b = (t .sound a b, whole)
     where
       whole : {a b : ℕ} → Reaches es a b → link rows a b ≡ true

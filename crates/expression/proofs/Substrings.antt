@@ -14,7 +14,7 @@ use Rattle.std.proofs.shelf.Lists.{take-append-drop, take-at}
 use Rattle.std.proofs.shelf.Tests.{or-cases, or-left, or-right, ne-eqb}
 use Rattle.expression.specs.declared.name_matcher.MatchKind.{MatchKind}
 use Rattle.expression.specs.declared.name_matcher.MatchKind.the-variants.{Equal, Contains, Glob}
-use Rattle.expression.specs.Names.{StandsIn, Taken, begins, holds, taken}
+use Rattle.expression.specs.Names.{StandsIn, Taken, begins, holds, isTaken}
 
 begins-there : (v n : List ℕ) → begins v n ≡ true → StandsIn v n
 begins-there v n h =
@@ -42,7 +42,7 @@ found-in v (b ∷ start) rest = or-right (begins v (b ∷ (start ++ (v ++ rest))
 holds-decides : (v n : List ℕ) → Decides (holds v n) (StandsIn v n)
 holds-decides v n = (held v n, λ p. ap (holds v) (p .2) ∙ found-in v (p .0) (p .1))
 
-pub taken-decides : (glob : List ℕ → List ℕ → Bool) (k : MatchKind) (v n : List ℕ) → Decides (taken glob k v n) (Taken glob k v n)
+pub taken-decides : (glob : List ℕ → List ℕ → Bool) (k : MatchKind) (v n : List ℕ) → Decides (isTaken glob k v n) (Taken glob k v n)
 taken-decides glob Equal v n = sameBytes-decides v n
 taken-decides glob Contains v n = holds-decides v n
 taken-decides glob Glob v n = (λ e. e, λ e. e)

@@ -28,7 +28,7 @@ holds value [] = begins value []
 holds value (b ∷ name) = begins value (b ∷ name) || holds value name
 
 -- the same as a test
-abbrev pub taken : (List ℕ → List ℕ → Bool) → MatchKind → List ℕ → List ℕ → Bool
-taken glob Equal value name = sameBytes value name
-taken glob Contains value name = holds value name
-taken glob Glob value name = glob value name
+abbrev pub isTaken : (List ℕ → List ℕ → Bool) → MatchKind → List ℕ → List ℕ → Bool
+isTaken glob Equal value name = sameBytes value name
+isTaken glob Contains value name = holds value name
+isTaken glob Glob value name = glob value name

@@ -10,6 +10,7 @@ use Rattle.expression.specs.NumberSets.{size, bit, member}
 use Rattle.expression.specs.Dependencies.{Reaches}
 use Rattle.expression.specs.declared.number_set.NumberSet.{NumberSet}
 use Rattle.expression.specs.declared.oracle.Edge.{Edge}
+use Rattle.expression.specs.declared.oracle.Reachability.{Reachability}
 
 -- the set of no package
 abbrev pub noPackages : NumberSet
@@ -58,9 +59,13 @@ pub record Through (es : List Edge) (k : ℕ) (rows : List NumberSet) : Type 0 w
   pub direct : (a b : ℕ) → directly es a b ≡ true → link rows a b ≡ true
   pub closed : (m a b : ℕ) → m < k → link rows a m ≡ true → link rows m b ≡ true → link rows a b ≡ true
 
--- the set of a has b exactly when a reaches b
-abbrev pub Closure : List Edge → List NumberSet → Type 0
-Closure es rows = (a b : ℕ) → Decides (link rows a b) (Reaches es a b)
+-- what is held for a has b
+abbrev pub reachable : Reachability → ℕ → ℕ → Bool
+reachable s = link (s .rows)
+
+-- b is held for a exactly when a reaches b
+abbrev pub Closure : List Edge → Reachability → Type 0
+Closure es s = (a b : ℕ) → Decides (reachable s a b) (Reaches es a b)
 
 -- how many packages a table of bits knows: one for each row, and at most 64
 abbrev pub knownRows : List ℕ → ℕ

@@ -5,7 +5,7 @@
 ghost use mathlib.Core.Path.{_≡_};
 ghost use Rattle.std.specs.Orderings.{Decides};
 ghost use Rattle.std.specs.shelf.Text.{sameBytes};
-ghost use Rattle.expression.specs.Names.{begins, holds, taken, Taken};
+ghost use Rattle.expression.specs.Names.{begins, holds, isTaken, Taken};
 use glob::matcher::Matcher;
 
 // How a name is compared with a value.
@@ -44,7 +44,7 @@ fn stands_in(value: &[u8], name: &[u8]) -> bool
 impl MatchKind {
     // Whether the name is taken. A glob is asked of the matcher.
     pub fn is_match<M: Matcher>(self, matcher: &M, value: &[u8], name: &[u8]) -> bool
-        ensures value { λ r. ⌜ r ≡ taken (matches (now (matcher .entry))) self (now (value .entry)) (now (name .entry)) ⌝ }
+        ensures value { λ r. ⌜ r ≡ isTaken (matches (now (matcher .entry))) self (now (value .entry)) (now (name .entry)) ⌝ }
         ensures meaning { λ r. ⌜ Decides r (Taken (matches (now (matcher .entry))) self (now (value .entry)) (now (name .entry))) ⌝ }
     {
         match self {

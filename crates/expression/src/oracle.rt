@@ -8,7 +8,7 @@ ghost use Prim.Native.Nat.{ℕ, _<_};
 ghost use denote.Ref.{now as held};
 ghost use Rattle.expression.specs.NumberSets.{size, member};
 ghost use Rattle.expression.specs.Dependencies.{Known, Reaches};
-ghost use Rattle.expression.specs.Oracles.{link, WithLink, Direct, Merged, Joined, Closure, tableDepends};
+ghost use Rattle.expression.specs.Oracles.{link, WithLink, Direct, Merged, Joined, reachable, Closure, tableDepends};
 use crate::number_set::NumberSet;
 use crate::number_set::SIZE;
 
@@ -87,8 +87,8 @@ pub struct Reachability {
 impl Reachability {
     // A package is known if it stands in an edge of two packages below 64, and other edges are skipped. A known package depends on itself and on what a chain of edges leads to.
     pub fn new(edges: &[Edge]) -> Self
-        ensures closure { λ r. ⌜ Closure (now (edges .entry)) (r .rows) ⌝ }
-        ensures known { λ r. ⌜ ((a b : ℕ) → link (r .rows) a b ≡ true → Known (now (edges .entry)) a × Known (now (edges .entry)) b) ⌝ }
+        ensures closure { λ r. ⌜ Closure (now (edges .entry)) r ⌝ }
+        ensures known { λ r. ⌜ ((a b : ℕ) → reachable r a b ≡ true → Known (now (edges .entry)) a × Known (now (edges .entry)) b) ⌝ }
     {
         let mut rows = direct(edges);
         for k in 0..SIZE {
@@ -99,7 +99,7 @@ impl Reachability {
 }
 
 pub impl DependencyOracle for Reachability as ReachabilityOracle {
-    ghost depends = { λ s. link (s .rows) };
+    ghost depends = { reachable };
 
     fn depends_on(&self, a: usize, b: usize) -> bool {
         linked(&self.rows, a, b)

@@ -13,64 +13,45 @@ use glob::place::Place;
 use std::test::*;
 
 fn query<'a>(binary_id: &'a [u8], test_name: &'a [u8]) -> TestQuery<'a> {
-    let binary = BinaryQuery {
-        package: 0,
+    let (binary_name, kind, platform): (&[u8], &[u8], BuildPlatform) = (
+        b"adc",
+        b"lib",
+        BuildPlatform::Host,
+    );
+    TestQuery {
+        binary: BinaryQuery {
+            package: 0,
+            binary_id,
+            binary_name,
+            kind,
+            platform,
+        },
+        test_name,
+    }
+}
+
+fn row(binary_id: Place, test_name: Place, group: usize) -> TestRow {
+    TestRow {
         binary_id,
-        binary_name: b"adc",
-        kind: b"lib",
-        platform: BuildPlatform::Host,
-    };
-    TestQuery { binary, test_name }
+        test_name,
+        group,
+    }
+}
+
+fn at(start: usize, length: usize) -> Place {
+    Place { start, length }
 }
 
 #[test]
 fn single_tests() -> Result<(), Fail> {
-    let id = Place {
-        start: 0,
-        length: 3,
-    };
-    let name = Place {
-        start: 3,
-        length: 3,
-    };
-    let end = Place {
-        start: 6,
-        length: 0,
-    };
-    let past = Place {
-        start: 4,
-        length: 3,
-    };
-    let far = Place {
-        start: usize::MAX,
-        length: usize::MAX,
-    };
+    let (id, name, end) = (at(0, 3), at(3, 3), at(6, 0));
+    let far = at(usize::MAX, usize::MAX);
     let rows = [
-        TestRow {
-            binary_id: id,
-            test_name: past,
-            group: 1,
-        },
-        TestRow {
-            binary_id: far,
-            test_name: name,
-            group: 2,
-        },
-        TestRow {
-            binary_id: id,
-            test_name: name,
-            group: 3,
-        },
-        TestRow {
-            binary_id: id,
-            test_name: name,
-            group: 4,
-        },
-        TestRow {
-            binary_id: end,
-            test_name: end,
-            group: 5,
-        },
+        row(id, at(4, 3), 1),
+        row(far, name, 2),
+        row(id, name, 3),
+        row(id, name, 4),
+        row(end, end, 5),
     ];
     let roster = TestRoster {
         text: b"adclow",
@@ -91,48 +72,34 @@ fn single_tests() -> Result<(), Fail> {
 
 #[test]
 fn prefixes() -> Result<(), Fail> {
-    let rows = [
-        PrefixRow {
-            prefix: Place {
-                start: 5,
-                length: 2,
-            },
-            group: 1,
-        },
-        PrefixRow {
-            prefix: Place {
-                start: 0,
-                length: 3,
-            },
-            group: 2,
-        },
-        PrefixRow {
-            prefix: Place {
-                start: 0,
-                length: 2,
-            },
-            group: 3,
-        },
-    ];
+    let past = PrefixRow {
+        prefix: at(5, 2),
+        group: 1,
+    };
+    let three = PrefixRow {
+        prefix: at(0, 3),
+        group: 2,
+    };
+    let two = PrefixRow {
+        prefix: at(0, 2),
+        group: 3,
+    };
     let roster = PrefixRoster {
         text: b"unit::",
-        rows: &rows,
+        rows: &[past, three, two],
     };
     check_eq(roster.group(&query(b"adc", b"uni")), 2)?;
     check_eq(roster.group(&query(b"adc", b"unit::low")), 2)?;
     check_eq(roster.group(&query(b"adc", b"un")), 3)?;
     check_eq(roster.group(&query(b"adc", b"u")), 0)?;
-    let whole = [PrefixRow {
-        prefix: Place {
-            start: 6,
-            length: 0,
-        },
+    let all = PrefixRow {
+        prefix: at(6, 0),
         group: 7,
-    }];
+    };
     check_eq(
         PrefixRoster {
             text: b"unit::",
-            rows: &whole,
+            rows: &[all],
         }.group(&query(b"adc", b"")),
         7,
     )
