@@ -1,15 +1,15 @@
 -- One bit of a sum of bits, of a power of two, and of nothing.
 use mathlib.Core.Path.{_≡_, refl, sym, ap, _∙_}
-use mathlib.Core.Bool.{Bool, true, false, _&&_, _||_}
+use mathlib.Core.Bool.{false, _||_}
 use mathlib.Core.Logic.{_⊎_, inl, inr}
-use Prim.Native.Nat.{ℕ, zero, suc, _+_, _-_, _*_, _/_, _%_, _^_, _<_, _≤_, max}
+use Prim.Native.Nat.{ℕ, zero, suc, _+_, _-_, _/_, _%_, _^_, _<_, max}
 use native.Mathlib.Omega.{arith}
 use native.Mathlib.Nat.{one-mul}
 use native.Mathlib.Numerals.{add-one}
 use lib.Bits.{bitOr, or-step, shifted-even}
-use lib.Dec.{eqb, ltb}
-use Rattle.std.proofs.shelf.Bits.{or-shr, mod-mul-add, mod-below, pow-pos, pow-add, shl-shr, div-below, pow-below, shr-shr, shr-below, div-add-mod'}
-use Rattle.std.proofs.shelf.Tests.{lt-ltb, cases-order, ne-eqb, eq-eqb, eqb-false}
+use lib.Dec.{eqb}
+use Rattle.std.proofs.shelf.Bits.{or-shr, mod-mul-add, mod-below, pow-pos, pow-add, shl-shr, div-below, pow-below, shr-shr, shr-below}
+use Rattle.std.proofs.shelf.Tests.{cases-order, ne-eqb, eq-eqb, eqb-false}
 use Rattle.expression.specs.NumberSets.{bit}
 
 max-bit : (p q : ℕ) → p < 2 → q < 2 → eqb (max p q) 1 ≡ (eqb p 1 || eqb q 1)

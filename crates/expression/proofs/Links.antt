@@ -1,18 +1,19 @@
 -- What a change of one set does to the links.
 use mathlib.Core.Path.{_≡_, refl, sym, ap, _∙_}
-use mathlib.Core.List.{List, [], _∷_}
-use mathlib.Core.Bool.{Bool, true, false, cond, _&&_, _||_}
+use mathlib.Core.List.{List}
+use mathlib.Core.Bool.{Bool, true, false, _&&_, _||_}
 use mathlib.Core.Logic.{_⊎_, inl, inr}
-use Prim.Native.Nat.{ℕ, _+_, _*_, _<_, _≤_}
+use Prim.Native.Nat.{ℕ, _+_, _<_, _≤_}
 use native.Mathlib.Omega.{arith}
 use lib.Dec.{eqb, ltb}
 use lib.ListN.{length, getD, set, replicate, drop}
 use Rattle.std.proofs.shelf.Lists.{getD-set-same, getD-set-other, getD-past, getD-replicate, length-replicate, at-drop-more}
 use Rattle.std.proofs.shelf.Tests.{cases-eq, cases-lt, cases-order, eq-eqb, ne-eqb, and-left, and-right, and-from, lt-ltb, le-ltb}
-use Rattle.expression.specs.NumberSets.{size, bit, member}
+use Rattle.expression.specs.NumberSets.{size, member}
 use Rattle.expression.specs.declared.number_set.NumberSet.{NumberSet}
 use Rattle.expression.specs.declared.oracle.Edge.{Edge}
-use Rattle.expression.specs.Oracles.{noPackages, link, within, are, edgeLinks, directly, WithLink, Merged, Joined}
+use Rattle.expression.specs.Oracles.{noPackages, link}
+use Rattle.expression.specs.Closing.{within, are, edgeLinks, directly, WithLink, Merged, Joined}
 use Rattle.expression.proofs.Bits.{bit-zero}
 
 pub or-no : (x : Bool) → (x || false) ≡ x

@@ -1,13 +1,11 @@
 -- Closing through one package after another gives all that is reached.
-use mathlib.Core.Path.{_≡_, refl, sym, ap, subst, _∙_}
+use mathlib.Core.Path.{_≡_, refl, sym, subst, _∙_}
 use mathlib.Core.List.{List, [], _∷_}
-use mathlib.Core.Bool.{Bool, true, false, _&&_, _||_}
+use mathlib.Core.Bool.{true, false, _&&_, _||_}
 use mathlib.Core.Logic.{_⊎_, inl, inr}
 use Prim.Native.Nat.{ℕ, _+_, _<_, _≤_}
 use native.Mathlib.Omega.{arith}
 use lib.Dec.{eqb, ltb}
-use lib.ListN.{length, getD}
-use Rattle.std.specs.Orderings.{Decides}
 use Rattle.std.proofs.shelf.Tests.{and-parts, and-from, or-cases, or-left, or-right, both-ways, eqb-true, eq-eqb, ltb-true, lt-ltb, cases-lt}
 use Rattle.expression.specs.declared.oracle.Edge.{Edge}
 use Rattle.expression.specs.Dependencies.{Kept, Known, Reaches}
@@ -16,7 +14,14 @@ use Rattle.expression.specs.Dependencies.Known.{source, target}
 use Rattle.expression.specs.Dependencies.Reaches.{itself, along}
 use Rattle.expression.specs.NumberSets.{size}
 use Rattle.expression.specs.declared.number_set.NumberSet.{NumberSet}
-use Rattle.expression.specs.Oracles.{link, within, are, edgeLinks, directly, Joined, Direct, Through, Closure}
+use Rattle.expression.specs.Oracles.{link, Closure}
+use Rattle.expression.specs.Closing.{edgeLinks, directly, Joined, Direct}
+
+-- closed under chains over the packages below k
+pub record Through (es : List Edge) (k : ℕ) (rows : List NumberSet) : Type 0 where
+  pub sound : (a b : ℕ) → link rows a b ≡ true → Reaches es a b
+  pub direct : (a b : ℕ) → directly es a b ≡ true → link rows a b ≡ true
+  pub closed : (m a b : ℕ) → m < k → link rows a m ≡ true → link rows m b ≡ true → link rows a b ≡ true
 
 trans : {es : List Edge} {a b c : ℕ} → Reaches es a b → Reaches es b c → Reaches es a c
 trans (itself k) s = s

@@ -9,8 +9,7 @@ use native.Mathlib.Numerals.{add-one}
 use lib.Bits.{bitOr}
 use lib.Dec.{eqb, ltb}
 use lib.ListN.{length, getD, set, take, drop, replicate}
-use Rattle.std.proofs.shelf.Bits.{div-add-mod', mod-below, div-below}
-use Rattle.std.specs.Orderings.{Decides}
+use Rattle.std.proofs.shelf.Bits.{div-below}
 use Rattle.std.proofs.shelf.Lists.{getD-set-same, getD-set-other, length-set, length-replicate, getD-replicate, getD-past, set-past, length-take-le, drop-more, getD-at, set-at, append-assoc, append-nil, take-more, take-all, drop-all}
 use Rattle.std.proofs.shelf.Tests.{cases-eq, cases-lt, eq-eqb, ne-eqb, eqb-true, lt-ltb, le-ltb, cond-true, cond-false, cases-order, and-parts, false≢true}
 use Rattle.expression.specs.NumberSets.{bit, member, inserted, united, void, gathered, setOf, someBelow, SetLaws}
@@ -32,9 +31,6 @@ same-rest n m e = by (cases-eq n m)
 pub member-inserted : (ws : List ℕ) (n m : ℕ) → n / 64 < length ws → member (inserted ws n) m ≡ (eqb n m || member ws m)
 member-inserted ws n m l = by (cases-eq (m / 64) (n / 64))
   where
-    old : ℕ
-    old = getD ws (n / 64) 0
-
     by : (m / 64 ≡ n / 64) ⊎ (m / 64 ≡ n / 64 → ⊥) → member (inserted ws n) m ≡ (eqb n m || member ws m)
     by (inl e) =
         ap (λ (k : ℕ). bit (getD (inserted ws n) k 0) (m % 64)) e

@@ -1,14 +1,13 @@
 -- The test for a value in a name, against a start, the value and a rest.
-use mathlib.Core.Path.{_≡_, refl, sym, ap, _∙_, subst}
-use mathlib.Core.Bool.{Bool, true, false, _||_}
+use mathlib.Core.Path.{_≡_, refl, sym, ap, _∙_}
+use mathlib.Core.Bool.{Bool, true}
 use mathlib.Core.List.{List, [], _∷_, _++_}
-use mathlib.Core.Logic.{_⊎_, inl, inr}
+use mathlib.Core.Logic.{inl, inr}
 use Prim.Native.Nat.{ℕ, suc}
 use native.Mathlib.Omega.{arith}
 use lib.Dec.{eqb}
 use lib.ListN.{length, take, drop}
 use Rattle.std.specs.Orderings.{Decides}
-use Rattle.std.specs.shelf.Text.{sameBytes}
 use Rattle.std.proofs.shelf.Equals.{sameBytes-decides}
 use Rattle.std.proofs.shelf.Lists.{take-append-drop, take-at}
 use Rattle.std.proofs.shelf.Tests.{or-cases, or-left, or-right, ne-eqb}
@@ -16,13 +15,19 @@ use Rattle.expression.specs.declared.name_matcher.MatchKind.{MatchKind}
 use Rattle.expression.specs.declared.name_matcher.MatchKind.the-variants.{Equal, Contains, Glob}
 use Rattle.expression.specs.Names.{StandsIn, Taken, begins, holds, isTaken}
 
-begins-there : (v n : List ℕ) → begins v n ≡ true → StandsIn v n
-begins-there v n h =
+pub begins-rest : (v n : List ℕ) → begins v n ≡ true → n ≡ v ++ drop (length v) n
+begins-rest v n h =
     let e = sameBytes-decides v (take (length v) n) .0 h in
-    ([], drop (length v) n, sym (take-append-drop (length v) n) ∙ ap (λ (z : List ℕ). z ++ drop (length v) n) (sym e))
+    sym (take-append-drop (length v) n) ∙ ap (λ (z : List ℕ). z ++ drop (length v) n) (sym e)
+
+begins-there : (v n : List ℕ) → begins v n ≡ true → StandsIn v n
+begins-there v n h = ([], drop (length v) n, begins-rest v n h)
 
 begins-whole : (v rest : List ℕ) → begins v (v ++ rest) ≡ true
 begins-whole v rest = sameBytes-decides v (take (length v) (v ++ rest)) .1 (sym (take-at v rest (length v) refl))
+
+pub begins-front : (v n rest : List ℕ) → n ≡ v ++ rest → begins v n ≡ true
+begins-front v n rest e = ap (begins v) e ∙ begins-whole v rest
 
 later : (v n : List ℕ) (b : ℕ) → StandsIn v n → StandsIn v (b ∷ n)
 later v n b p = (b ∷ p .0, p .1, ap (λ (z : List ℕ). b ∷ z) (p .2))

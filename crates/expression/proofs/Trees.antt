@@ -2,8 +2,8 @@
 use mathlib.Core.Path.{_≡_, refl, sym, ap, _∙_, subst}
 use mathlib.Core.Bool.{Bool, true, false, cond}
 use mathlib.Core.List.{List, [], _∷_, _++_, append-assoc, append-nil}
-use mathlib.Core.Logic.{_⊎_, inl, inr}
-use Prim.Native.Nat.{ℕ, suc, _+_, _-_, _*_, _≤_, _<_, max}
+use mathlib.Core.Logic.{inl, inr}
+use Prim.Native.Nat.{ℕ, suc, _+_, _-_, _*_, _≤_, _<_}
 use native.Mathlib.Omega.{arith}
 use lib.Dec.{ltb}
 use lib.ListN.{length, length-append}
@@ -15,10 +15,10 @@ use Rattle.expression.specs.Logic.{Ops, Laws, truth}
 use Rattle.expression.specs.declared.nodes.Node.{Node}
 use Rattle.expression.specs.declared.nodes.Node.the-variants.{Leaf, Not, And, Or}
 use Rattle.expression.specs.Tree.{Tree, leaf, complement, intersection, union, postfix, value, places, EachLeaf}
-use Rattle.expression.specs.Stack.{acts, goOn, alone, runs}
+use Rattle.expression.specs.Stack.{goOn, runs}
 use Rattle.expression.specs.Evaluation.{Evaluation}
 
-none-some : {A : Type 0} {v : A} → None ≡ Some v → ⊥
+pub none-some : {A : Type 0} {v : A} → None ≡ Some v → ⊥
 none-some e = let z : _≡_ {A = ℕ} 0 1 = cc in omega arith
 
 module _ {T L : Type 0} (o : Ops L) (f : T → L) (room : ℕ) where

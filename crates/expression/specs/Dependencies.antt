@@ -1,5 +1,5 @@
 -- Which package depends on which, by a list of direct edges.
-use mathlib.Core.List.{List, [], _∷_}
+use mathlib.Core.List.{List, _∷_}
 use Prim.Native.Nat.{ℕ, _<_}
 use Rattle.expression.specs.NumberSets.{size}
 use Rattle.expression.specs.declared.oracle.Edge.{Edge}

@@ -9,3 +9,4 @@ pub mod NumberSets
 pub mod Rosters
 pub mod Dependencies
 pub mod Oracles
+pub mod Closing

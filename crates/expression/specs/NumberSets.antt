@@ -6,7 +6,6 @@ use Prim.Native.Nat.{ℕ, zero, suc, _*_, _/_, _%_, _^_, _<_, _≤_}
 use lib.Bits.{bitOr}
 use lib.Dec.{eqb, ltb}
 use lib.ListN.{length, getD, set, replicate}
-use Rattle.std.specs.Orderings.{Decides}
 
 -- how many words a set of the program has; no law below depends on it
 abbrev pub width : ℕ

@@ -1,5 +1,5 @@
 -- What nodes do to a stack of values, its top first, that has room for a number of them.
-use mathlib.Core.Bool.{Bool, true, false, cond}
+use mathlib.Core.Bool.{cond}
 use mathlib.Core.List.{List, [], _∷_, reverse}
 use Prim.Native.Nat.{ℕ}
 use lib.Dec.{ltb}

@@ -6,9 +6,10 @@ ghost use mathlib.Core.Path.{_≡_};
 ghost use mathlib.Core.Bool.{Bool, true};
 ghost use Prim.Native.Nat.{ℕ, _<_};
 ghost use denote.Ref.{now as held};
-ghost use Rattle.expression.specs.NumberSets.{size, member};
-ghost use Rattle.expression.specs.Dependencies.{Known, Reaches};
-ghost use Rattle.expression.specs.Oracles.{link, WithLink, Direct, Merged, Joined, reachable, Closure, tableDepends};
+ghost use Rattle.expression.specs.NumberSets.{size};
+ghost use Rattle.expression.specs.Dependencies.{Known};
+ghost use Rattle.expression.specs.Oracles.{link, reachable, Closure, tableDepends};
+ghost use Rattle.expression.specs.Closing.{WithLink, Direct, Merged, Joined};
 use crate::number_set::NumberSet;
 use crate::number_set::SIZE;
 

@@ -6,7 +6,7 @@ ghost use mathlib.Core.Path.{_≡_};
 ghost use Prim.Native.Nat.{ℕ};
 ghost use denote.Ref.{now as held};
 ghost use Rattle.expression.specs.Queries.{Test, testOf};
-ghost use Rattle.expression.specs.Rosters.{rowFits, leads, prefixFits, testGroup, prefixGroup, FirstDecides};
+ghost use Rattle.expression.specs.Rosters.{rowFits, prefixFits, testGroup, prefixGroup, RowFits, PrefixFits, FirstDecides};
 use crate::name_matcher::begins_with;
 use crate::queries::TestQuery;
 use glob::place::Place;
@@ -45,7 +45,7 @@ pub impl Roster for TestRoster<'_> as TestRosterGroups {
 
     fn group(&self, query: &TestQuery<'_>) -> usize
         ensures value { λ r. ⌜ r ≡ testGroup (now (now (self .entry) .text)) (now (now (self .entry) .rows)) (testOf (now (query .entry))) ⌝ }
-        ensures first { λ r. ⌜ FirstDecides (rowFits (now (now (self .entry) .text)) (testOf (now (query .entry)))) (λ row. row .group) (now (now (self .entry) .rows)) r ⌝ }
+        ensures first { λ r. ⌜ FirstDecides (RowFits (now (now (self .entry) .text)) (testOf (now (query .entry)))) (λ row. row .group) (now (now (self .entry) .rows)) r ⌝ }
     {
         for row in self.rows {
             if row_fits(self.text, *row, query) {
@@ -84,7 +84,7 @@ pub impl Roster for PrefixRoster<'_> as PrefixRosterGroups {
 
     fn group(&self, query: &TestQuery<'_>) -> usize
         ensures value { λ r. ⌜ r ≡ prefixGroup (now (now (self .entry) .text)) (now (now (self .entry) .rows)) (testOf (now (query .entry))) ⌝ }
-        ensures first { λ r. ⌜ FirstDecides (prefixFits (now (now (self .entry) .text)) (testOf (now (query .entry)))) (λ row. row .group) (now (now (self .entry) .rows)) r ⌝ }
+        ensures first { λ r. ⌜ FirstDecides (PrefixFits (now (now (self .entry) .text)) (testOf (now (query .entry)))) (λ row. row .group) (now (now (self .entry) .rows)) r ⌝ }
     {
         for prefix in self.rows {
             if prefix_fits(self.text, *prefix, query) {

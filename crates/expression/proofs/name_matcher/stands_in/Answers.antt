@@ -2,7 +2,6 @@ use mathlib.Core.Path.{_≡_, sym, ap, _∙_}
 use mathlib.Core.Bool.{Bool, _||_}
 use mathlib.Core.List.{List}
 use Prim.Native.Nat.{ℕ, _+_, _-_, _<_}
-use native.Mathlib.Omega.{arith}
 use lib.ListN.{drop, length, take}
 use Rattle.std.proofs.shelf.Lists.{drop-more, at-drop-more, at-drop-all, take-rest}
 use Rattle.expression.specs.Names.{begins, holds}

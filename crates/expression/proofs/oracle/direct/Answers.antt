@@ -1,15 +1,15 @@
-use mathlib.Core.Path.{_≡_, refl, sym, ap, subst, _∙_}
+use mathlib.Core.Path.{sym, ap, _∙_}
 use mathlib.Core.List.{List}
 use mathlib.Core.Bool.{Bool, _||_}
 use mathlib.Core.Logic.{_⊎_, inl, inr}
-use Prim.Native.Nat.{ℕ, _+_, _≤_}
-use native.Mathlib.Omega.{arith}
-use lib.ListN.{drop, getD, length}
+use Prim.Native.Nat.{_≤_}
+use lib.ListN.{getD}
 use Rattle.std.proofs.shelf.Lists.{at-drop-all}
 use Rattle.expression.specs.NumberSets.{size}
 use Rattle.expression.specs.declared.number_set.NumberSet.{NumberSet}
 use Rattle.expression.specs.declared.oracle.Edge.{Edge}
-use Rattle.expression.specs.Oracles.{link, edgeLinks, directly}
+use Rattle.expression.specs.Oracles.{link}
+use Rattle.expression.specs.Closing.{directly}
 use Rattle.expression.proofs.Links.{link-none, edge-next, edge-kept, edge-skipped, or-no}
 use Rattle.expression.proofs.oracle.direct.Needs as need
 use Rattle.expression.proofs.oracle.direct.Needs.{then-from-lt-SIZE·then-to-lt-SIZE, else-from-lt-SIZE, else-from-lt-SIZE·by·then-from-lt-SIZE·else-to-lt-SIZE, else-from-lt-SIZE·by·else-from-lt-SIZE}

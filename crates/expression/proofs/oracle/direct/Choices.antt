@@ -2,7 +2,8 @@ use mathlib.Core.Path.{_≡_}
 use mathlib.Core.Bool.{_||_}
 use Prim.Native.Nat.{ℕ}
 use lib.ListN.{drop}
-use Rattle.expression.specs.Oracles.{link, directly}
+use Rattle.expression.specs.Oracles.{link}
+use Rattle.expression.specs.Closing.{directly}
 use Rattle.expression.proofs.oracle.direct.Given as given
 
 abbrev pub Inv-loop-edge : given.InvT-loop-edge

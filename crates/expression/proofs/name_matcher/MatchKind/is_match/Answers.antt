@@ -1,4 +1,4 @@
-use mathlib.Core.Path.{_≡_, sym, ap, _∙_}
+use mathlib.Core.Path.{sym, ap, _∙_}
 use Rattle.std.proofs.shelf.Ways.{decides-at}
 use Rattle.expression.specs.Names.{isTaken}
 use Rattle.expression.proofs.Substrings.{taken-decides}

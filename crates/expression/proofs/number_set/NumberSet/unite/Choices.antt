@@ -1,6 +1,6 @@
 use mathlib.Core.Path.{_≡_}
 use mathlib.Core.List.{_++_}
-use lib.ListN.{take, drop, length}
+use lib.ListN.{take, drop}
 use Rattle.expression.specs.NumberSets.{united}
 use Rattle.expression.proofs.number_set.NumberSet.unite.Given as given
 

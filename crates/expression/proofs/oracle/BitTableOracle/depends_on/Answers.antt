@@ -1,9 +1,9 @@
-use mathlib.Core.Path.{_≡_, refl, sym, ap, _∙_}
+use mathlib.Core.Path.{sym, ap, _∙_}
 use mathlib.Core.Bool.{Bool, _&&_}
 use native.Mathlib.Omega.{arith}
 use Rattle.std.proofs.shelf.Tests.{lt-ltb}
 use Rattle.expression.specs.NumberSets.{bit}
-use Rattle.expression.specs.Oracles.{knownRows, tableDepends}
+use Rattle.expression.specs.Oracles.{knownRows}
 use lib.Dec.{ltb}
 use lib.ListN.{getD}
 use Rattle.expression.proofs.oracle.BitTableOracle.depends_on.Needs as need

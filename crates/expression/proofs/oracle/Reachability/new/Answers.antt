@@ -1,8 +1,8 @@
 use mathlib.Core.Path.{_≡_, subst}
-use Prim.Native.Nat.{ℕ, _+_}
+use Prim.Native.Nat.{ℕ}
 use native.Mathlib.Omega.{arith}
 use Rattle.expression.specs.NumberSets.{size}
-use Rattle.expression.specs.Oracles.{Through}
+use Rattle.expression.proofs.Paths.{Through}
 use Rattle.expression.proofs.Paths.{through-none, through-more, through-all, reaches-known}
 use Rattle.expression.proofs.oracle.Reachability.new.Needs as need
 

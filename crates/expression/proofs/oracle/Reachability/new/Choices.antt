@@ -1,4 +1,4 @@
-use Rattle.expression.specs.Oracles.{Through}
+use Rattle.expression.proofs.Paths.{Through}
 use Rattle.expression.proofs.oracle.Reachability.new.Given as given
 
 abbrev pub Inv-loop-k : given.InvT-loop-k

@@ -1,10 +1,10 @@
-use mathlib.Core.Path.{_≡_, sym, _∙_}
+use mathlib.Core.Path.{sym, _∙_}
 use mathlib.Core.Bool.{true, false}
 use Rattle.std.proofs.shelf.Lists.{at-drop-all}
 use Rattle.expression.specs.Queries.{testOf}
-use Rattle.expression.specs.Rosters.{prefixFits, firstFit}
+use Rattle.expression.specs.Rosters.{prefixFits, firstFit, PrefixFits}
 use Rattle.expression.specs.declared.roster.PrefixRow.{PrefixRow}
-use Rattle.expression.proofs.FirstFits.{first-on, first-decides}
+use Rattle.expression.proofs.FirstFits.{first-on, first-decides, prefix-decides}
 use Rattle.expression.proofs.roster.PrefixRosterGroups.group.Needs as need
 
 none : PrefixRow
@@ -15,7 +15,7 @@ unfolding none
 returns-then-prefix-fits c =
     let s = c .args .self .now in
     let e = first-on (prefixFits (s .text .now) (testOf (c .args .query .now))) (λ row. row .group) (s .rows .now) (c .loop-prefix .prefix-index) none true (c .loop-prefix-test .taken) (c .if-prefix-fits .ensures tt) ∙ c .loop-prefix .inv in
-    record { value = e; first = first-decides (prefixFits (s .text .now) (testOf (c .args .query .now))) (λ row. row .group) (s .rows .now) _ e }
+    record { value = e; first = first-decides (prefixFits (s .text .now) (testOf (c .args .query .now))) (λ row. row .group) (PrefixFits (s .text .now) (testOf (c .args .query .now))) (prefix-decides (s .text .now) (testOf (c .args .query .now))) (s .rows .now) _ e }
 
 pub loop-prefix-again : need.loop-prefix-again
 unfolding none
@@ -27,4 +27,4 @@ pub returns : need.returns
 returns c =
     let s = c .args .self .now in
     let e = sym (at-drop-all (firstFit (prefixFits (s .text .now) (testOf (c .args .query .now))) (λ row. row .group)) (s .rows .now) (c .loop-prefix .prefix-index) (c .loop-prefix-test .left)) ∙ c .loop-prefix .inv in
-    record { value = e; first = first-decides (prefixFits (s .text .now) (testOf (c .args .query .now))) (λ row. row .group) (s .rows .now) _ e }
+    record { value = e; first = first-decides (prefixFits (s .text .now) (testOf (c .args .query .now))) (λ row. row .group) (PrefixFits (s .text .now) (testOf (c .args .query .now))) (prefix-decides (s .text .now) (testOf (c .args .query .now))) (s .rows .now) _ e }

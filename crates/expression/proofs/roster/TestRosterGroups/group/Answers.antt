@@ -1,10 +1,10 @@
-use mathlib.Core.Path.{_≡_, sym, _∙_}
+use mathlib.Core.Path.{sym, _∙_}
 use mathlib.Core.Bool.{true, false}
 use Rattle.std.proofs.shelf.Lists.{at-drop-all}
 use Rattle.expression.specs.Queries.{testOf}
-use Rattle.expression.specs.Rosters.{rowFits, firstFit}
+use Rattle.expression.specs.Rosters.{rowFits, firstFit, RowFits}
 use Rattle.expression.specs.declared.roster.TestRow.{TestRow}
-use Rattle.expression.proofs.FirstFits.{first-on, first-decides}
+use Rattle.expression.proofs.FirstFits.{first-on, first-decides, row-decides}
 use Rattle.expression.proofs.roster.TestRosterGroups.group.Needs as need
 
 none : TestRow
@@ -15,7 +15,7 @@ unfolding none
 returns-then-row-fits c =
     let s = c .args .self .now in
     let e = first-on (rowFits (s .text .now) (testOf (c .args .query .now))) (λ row. row .group) (s .rows .now) (c .loop-row .row-index) none true (c .loop-row-test .taken) (c .if-row-fits .ensures tt) ∙ c .loop-row .inv in
-    record { value = e; first = first-decides (rowFits (s .text .now) (testOf (c .args .query .now))) (λ row. row .group) (s .rows .now) _ e }
+    record { value = e; first = first-decides (rowFits (s .text .now) (testOf (c .args .query .now))) (λ row. row .group) (RowFits (s .text .now) (testOf (c .args .query .now))) (row-decides (s .text .now) (testOf (c .args .query .now))) (s .rows .now) _ e }
 
 pub loop-row-again : need.loop-row-again
 unfolding none
@@ -27,4 +27,4 @@ pub returns : need.returns
 returns c =
     let s = c .args .self .now in
     let e = sym (at-drop-all (firstFit (rowFits (s .text .now) (testOf (c .args .query .now))) (λ row. row .group)) (s .rows .now) (c .loop-row .row-index) (c .loop-row-test .left)) ∙ c .loop-row .inv in
-    record { value = e; first = first-decides (rowFits (s .text .now) (testOf (c .args .query .now))) (λ row. row .group) (s .rows .now) _ e }
+    record { value = e; first = first-decides (rowFits (s .text .now) (testOf (c .args .query .now))) (λ row. row .group) (RowFits (s .text .now) (testOf (c .args .query .now))) (row-decides (s .text .now) (testOf (c .args .query .now))) (s .rows .now) _ e }
