@@ -1,0 +1,12 @@
+pub mod Queries
+pub mod Names
+pub mod Logic
+pub mod Kleene
+pub mod Tree
+pub mod Stack
+pub mod Evaluation
+pub mod NumberSets
+pub mod Rosters
+pub mod Dependencies
+pub mod Oracles
+pub mod Closing
