@@ -1,0 +1,14 @@
+pub mod Found
+pub mod Hexes
+pub mod Rules
+pub mod Numbers
+pub mod Escapes
+pub mod Ends
+pub mod Runs
+pub mod Frags
+pub mod Loops
+pub mod Naming
+pub mod Sound
+pub mod Whole
+pub mod Meanings
+pub mod Texts
