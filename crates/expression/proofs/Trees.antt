@@ -120,6 +120,25 @@ module _ {T L : Type 0} (o : Ops L) (f : T → L) (room : ℕ) where
         | inr l ↦ subst (λ (z : Option L). found z P) (sym (e ∙ whole t xs h l)) p
       ]
 
+-- nodes write down one tree at most: a tree is its own value in the logic of trees
+trees : {T : Type 0} → Tree T → Ops (Tree T)
+trees t = record { top = t; bottom = t; both = intersection; either = union; negated = complement }
+
+itself : {T : Type 0} (d t : Tree T) → value (trees d) leaf t ≡ t
+unfolding trees
+itself d (leaf x) = refl
+itself d (complement t) = ap complement (itself d t)
+itself {T} d (intersection t u) = ap (λ (z : Tree T). intersection z (value (trees d) leaf u)) (itself d t) ∙ ap (intersection t) (itself d u)
+itself {T} d (union t u) = ap (λ (z : Tree T). union z (value (trees d) leaf u)) (itself d t) ∙ ap (union t) (itself d u)
+
+one-tree : {T : Type 0} (xs : List (Node T)) (t u : Tree T) → postfix t ≡ xs → postfix u ≡ xs → t ≡ u
+one-tree xs t u e h =
+    let room = places t + places u in
+    let left = whole (trees t) leaf room t xs e (omega arith) in
+    let right = whole (trees t) leaf room u xs h (omega arith) in
+    let same : value (trees t) leaf t ≡ value (trees t) leaf u = cc in
+    sym (itself t t) ∙ same ∙ itself t u
+
 -- a tree of n nodes needs at most half of n + 1 places
 halves : {T : Type 0} (t : Tree T) → (1 ≤ places t) × (2 * places t ≤ length (postfix t) + 1)
 halves (leaf x) = (omega arith, omega arith)
@@ -149,6 +168,7 @@ pub evaluated : {T L : Type 0} {o : Ops L} {fits : L → Bool → Type 0} (f : T
 evaluated {T} {L} {o} {fits} f nodes room r laws e = record {
   value-of = λ t h w. e ∙ whole o f room t nodes h w;
   only = sure o f room nodes r e;
+  unique = one-tree nodes;
   enough = λ t h l w. e ∙ whole o f room t nodes h (places-96 t nodes room h l w);
   fitting = λ b t h each. carried o f room (λ v. fits v (value truth b t)) t nodes r e h (fitting laws f b t each);
 }

@@ -21,6 +21,8 @@ pub record Evaluation {T L : Type 0} (o : Ops L) (fits : L → Bool → Type 0) 
   pub value-of : (t : Tree T) → Writes nodes t → places t ≤ room → r ≡ Some (value o f t)
   -- no value but where the nodes write down a tree and there is room for it
   pub only : found r (λ _. (t : Tree T) × Writes nodes t × (places t ≤ room))
+  -- they write down one tree at most
+  pub unique : (t u : Tree T) → Writes nodes t → Writes nodes u → t ≡ u
   -- 96 places serve every tree of up to 191 nodes
   pub enough : (t : Tree T) → Writes nodes t → length nodes ≤ 191 → 96 ≤ room → r ≡ Some (value o f t)
   -- where each leaf's value fits its truth value, the answer fits the tree's truth value

@@ -27,7 +27,7 @@ abbrev pub holds : List ℕ → List ℕ → Bool
 holds value [] = begins value []
 holds value (b ∷ name) = begins value (b ∷ name) || holds value name
 
--- the same as a test
+-- whether the name is taken
 abbrev pub isTaken : (List ℕ → List ℕ → Bool) → MatchKind → List ℕ → List ℕ → Bool
 isTaken glob Equal value name = sameBytes value name
 isTaken glob Contains value name = holds value name

@@ -25,14 +25,16 @@ pub record FirstDecides {R : Type 0} (Fits : R → Type 0) (number : R → ℕ) 
   pub first : (before : List R) (row : R) (after : List R) → rows ≡ before ++ row ∷ after → All (λ x. Fits x → ⊥) before → Fits row → n ≡ number row
   pub none : All (λ x. Fits x → ⊥) rows → n ≡ 0
 
--- the same fits as tests
+-- whether a row for a single test fits
 abbrev pub rowFits : List ℕ → Test → TestRow → Bool
 rowFits text q row = stands text (row .«binary_id») (q .binary .id) && stands text (row .«test_name») (q .name)
 
+-- whether a name begins with a part of a text, if there is such a part
 abbrev pub leads : List ℕ → Option (List ℕ) → Bool
 leads name None = false
 leads name (Some prefix) = begins prefix name
 
+-- whether a row for a prefix fits
 abbrev pub prefixFits : List ℕ → Test → PrefixRow → Bool
 prefixFits text q row = leads (q .name) (partOf text (row .prefix))
 

@@ -83,12 +83,15 @@ mark-says t p = slash (isAt t p 47) refl
     wave : (x : Bool) → isAt t p 126 ≡ x → isAt t p 47 ≡ false → isAt t p 35 ≡ false → isAt t p 61 ≡ false → Says t p (cond x (mark.Marked Contains) mark.Unmarked)
     wave true e a b c = at-stands t p 126 e
     wave false e a b c = (not-at t p 61 (omega arith) c, not-at t p 126 (omega arith) e, not-at t p 35 (omega arith) b, not-at t p 47 (omega arith) a)
+
     equal : (x : Bool) → isAt t p 61 ≡ x → isAt t p 47 ≡ false → isAt t p 35 ≡ false → Says t p (cond x (mark.Marked Equal) (cond (isAt t p 126) (mark.Marked Contains) mark.Unmarked))
     equal true e a b = at-stands t p 61 e
     equal false e a b = wave (isAt t p 126) refl a b e
+
     hash : (x : Bool) → isAt t p 35 ≡ x → isAt t p 47 ≡ false → Says t p (cond x (mark.Marked Glob) (cond (isAt t p 61) (mark.Marked Equal) (cond (isAt t p 126) (mark.Marked Contains) mark.Unmarked)))
     hash true e a = at-stands t p 35 e
     hash false e a = equal (isAt t p 61) refl a e
+
     slash : (x : Bool) → isAt t p 47 ≡ x → Says t p (cond x mark.Regex (cond (isAt t p 35) (mark.Marked Glob) (cond (isAt t p 61) (mark.Marked Equal) (cond (isAt t p 126) (mark.Marked Contains) mark.Unmarked))))
     slash true e = tt
     slash false e = hash (isAt t p 35) refl e
@@ -115,13 +118,15 @@ marked-past : (t : List ℕ) (p : Predicate) (i : ℕ) (m : MatchKind) (b : At) 
 marked-past t p i m b v rule h c =
     let s = clean-then (moved (b .pos + 1)) (λ _. matcherAt t m) b v c in
     let a = after b (moved (b .pos + 1) b) in
-    let x = matcher-sound t m a v h (s .second) in
-    (record {
-       matched = record { kind = m; called = x .called };
-       is = x .is;
-       rule = rule ((moved (b .pos + 1) ⨾ (λ _. matcherAt t m)) b .pos) (x .called .bytes) (subst (λ j. Spells t (b .pos + 1) j (x .called .bytes)) (sym (s .pos)) (x .spells));
-       fine = x .fine },
-     s .parts ∙ x .parts)
+    let x = matcher-sound t m a v h (s .second) in (
+      record {
+        matched = record { kind = m; called = x .called };
+        is = x .is;
+        rule = rule ((moved (b .pos + 1) ⨾ (λ _. matcherAt t m)) b .pos) (x .called .bytes) (subst (λ j. Spells t (b .pos + 1) j (x .called .bytes)) (sym (s .pos)) (x .spells));
+        fine = x .fine;
+      },
+      s .parts ∙ x .parts,
+    )
 
 past : (t : List ℕ) (p : Predicate) (i : ℕ) (b : At) (v : Option Matched) (m : Mark) → Says t (b .pos) m → Blanks t i (b .pos) → NoBlank t (b .pos) → b .pos ≤ length t →
     Clean (argumentFor t (usual p) m b) v → Past t p i (argumentFor t (usual p) m b) v × (argumentFor t (usual p) m b .parts ≡ b .parts)
@@ -133,13 +138,15 @@ past t p i b v (mark.Marked Contains) s k free h c =
 past t p i b v (mark.Marked Glob) s k free h c =
     marked-past t p i Glob b v (λ j w x. Argument.glob k s x) (stands-byte t 35 (b .pos) (b .pos + 1) (omega arith) s .within) c
 past t p i b v mark.Unmarked s k free h c =
-    let x = matcher-sound t (usual p) b v h c in
-    (record {
-       matched = record { kind = usual p; called = x .called };
-       is = x .is;
-       rule = Argument.unmarked k (record { blank = free; equal = s .0; contains = s .1; glob = s .2; slash = s .3 }) (x .spells);
-       fine = x .fine },
-     x .parts)
+    let x = matcher-sound t (usual p) b v h c in (
+      record {
+        matched = record { kind = usual p; called = x .called };
+        is = x .is;
+        rule = Argument.unmarked k (record { blank = free; equal = s .0; contains = s .1; glob = s .2; slash = s .3 }) (x .spells);
+        fine = x .fine;
+      },
+      x .parts,
+    )
 
 pub argument-sound : (t : List ℕ) (p : Predicate) (a : At) (v : Option Matched) → a .pos ≤ length t → Clean (argumentAt t (usual p) a) v → Argued t p a v
 unfolding argumentAt
@@ -150,10 +157,12 @@ argument-sound t p a v h c =
     let k = skip-blanks t (a .pos) in
     let y = past t p (a .pos) b v (markAt t q) (mark-says t q) k (skip-stops t (a .pos)) (blanks-on t k h .1) (s .second) in
     record {
-      matched = y .0 .matched; is = y .0 .is;
+      matched = y .0 .matched;
+      is = y .0 .is;
       rule = subst (λ j. Argument t p (a .pos) j (y .0 .matched .called .bytes) (y .0 .matched .kind)) (sym (s .pos)) (y .0 .rule);
       fine = y .0 .fine;
-      parts = s .parts ∙ y .1 }
+      parts = s .parts ∙ y .1;
+    }
 
 -- an argument of the rules is read
 pub record Arguing (t : List ℕ) (p : Predicate) (a : At) (j : ℕ) (b : List ℕ) (m : MatchKind) : Type 0 where
@@ -184,7 +193,8 @@ argue t p a k j b m w bl free e rd =
     record {
       called = y .called;
       reads = reads-then (moved (skip t (a .pos))) (λ _ b. argumentFor t (usual p) (markAt t (b .pos)) b) a (skip t (a .pos)) j 0 0 tt x (moved-reads (skip t (a .pos)) a) f;
-      bytes = y .bytes }
+      bytes = y .bytes;
+    }
 
 marked-at : (t : List ℕ) (p : Predicate) (m : MatchKind) (k j : ℕ) (b : List ℕ) → k + 1 ≤ length t → Spells t (k + 1) j b → FineBy m b →
     (c : At) → c .pos ≡ k → ArguingAt t p (mark.Marked m) c j b m
@@ -195,14 +205,15 @@ marked-at t p m k j b h s f c e =
     record {
       called = x .called;
       reads = reads-then (moved (c .pos + 1)) (λ _. matcherAt t m) c (c .pos + 1) j 0 0 tt (Some (record { kind = m; called = x .called })) (moved-reads (c .pos + 1) c) (x .reads);
-      bytes = x .bytes }
+      bytes = x .bytes;
+    }
 
 by-mark : (t : List ℕ) (p : Predicate) (m : MatchKind) (c : ℕ) (a : At) (k l j : ℕ) (b : List ℕ) → 0 < c → (c ≡ 32 → ⊥) → (c ≡ 10 → ⊥) → (c ≡ 13 → ⊥) → markOf c ≡ mark.Marked m →
     Blanks t (a .pos) k → Stands t (c ∷ []) k l → Spells t l j b → FineBy m b → Arguing t p a j b m
 by-mark t p m c a k l j b pos x y z is bl st s f =
     let w = stands-byte t c k l pos st in
     argue t p a k j b m (mark.Marked m) bl (no-blank t k c (w .byte) x y z) (mark-of t k c (inside t k c (w .byte) pos) (w .byte) ∙ is)
-      (marked-at t p m k j b (omega (arith, w .end, w .within)) (subst (λ i. Spells t i j b) (w .end) s) f)
+    (marked-at t p m k j b (omega (arith, w .end, w .within)) (subst (λ i. Spells t i j b) (w .end) s) f)
 
 pub argument-whole : (t : List ℕ) (p : Predicate) (a : At) (j : ℕ) (b : List ℕ) (m : MatchKind) → Argument t p (a .pos) j b m → FineBy m b → Arguing t p a j b m
 argument-whole t p a j b m (Argument.equal {k} {l} bl st s) f = by-mark t p Equal 61 a k l j b (omega arith) (λ e. omega arith) (λ e. omega arith) (λ e. omega arith) refl bl st s f
@@ -212,6 +223,6 @@ argument-whole t p a j b m (Argument.unmarked {k} bl u s) f =
     let on = spells-on t k j b s in
     let h : k < length t = omega (arith, on .0, on .1) in
     argue t p a k j b (usual p) mark.Unmarked bl (u .blank) (mark-of t k (getD t k 0) h refl ∙ unmarked-of (getD t k 0) (u .equal) (u .contains) (u .glob) (u .slash))
-      (λ c e.
-        let x = matcher-whole t (usual p) c j b (subst (λ i. i ≤ length t) (sym e) (omega arith)) (subst (λ i. Spells t i j b) (sym e) s) f in
-        record { called = x .called; reads = x .reads; bytes = x .bytes })
+    (λ c e.
+    let x = matcher-whole t (usual p) c j b (subst (λ i. i ≤ length t) (sym e) (omega arith)) (subst (λ i. Spells t i j b) (sym e) s) f in
+    record { called = x .called; reads = x .reads; bytes = x .bytes })

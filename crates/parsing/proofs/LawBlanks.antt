@@ -36,9 +36,9 @@ data Kind (b next : ℕ) : Type 0 where
 kind : (b next : ℕ) → isBlank b next ≡ true → Kind b next
 kind b next h =
     ⊎-elim
-      (λ q. ⊎-elim (λ r. Kind.space (eqb-true b 32 r)) (λ r. Kind.newline (eqb-true b 10 r)) (or-cases (eqb b 32) (eqb b 10) q))
-      (λ q. let a = and-parts (eqb b 13) (eqb next 10) q in Kind.return (eqb-true b 13 (a .0)) (eqb-true next 10 (a .1)))
-      (or-cases (eqb b 32 || eqb b 10) (eqb b 13 && eqb next 10) h)
+    (λ q. ⊎-elim (λ r. Kind.space (eqb-true b 32 r)) (λ r. Kind.newline (eqb-true b 10 r)) (or-cases (eqb b 32) (eqb b 10) q))
+    (λ q. let a = and-parts (eqb b 13) (eqb next 10) q in Kind.return (eqb-true b 13 (a .0)) (eqb-true next 10 (a .1)))
+    (or-cases (eqb b 32 || eqb b 10) (eqb b 13 && eqb next 10) h)
 
 is-blank : (b next : ℕ) → Kind b next → isBlank b next ≡ true
 is-blank b next (Kind.space e) = or-left (eqb b 32 || eqb b 10) (eqb b 13 && eqb next 10) (or-left (eqb b 32) (eqb b 10) (eq-eqb b 32 e))
@@ -66,6 +66,7 @@ blanks-of t p (b ∷ c ∷ s) e = one (isBlank b c) refl (blanks-of t (p + 1) (c
       where
         far : p + 1 + blanks (c ∷ s) ≡ p + suc (blanks (c ∷ s))
         far = omega arith
+
         go : Kind b c → Blanks t p (p + suc (blanks (c ∷ s)))
         go (Kind.space q) = subst (Blanks t p) far (Blanks.more (Blank.space (head-at t p b (c ∷ s) e ∙ q)) x)
         go (Kind.newline q) = subst (Blanks t p) far (Blanks.more (Blank.newline (head-at t p b (c ∷ s) e ∙ q)) x)
@@ -98,8 +99,10 @@ stops t p (b ∷ s) e j x = one (isBlank b (getD s 0 0)) refl (stops t (p + 1) s
   where
     next : getD t (p + 1) 0 ≡ getD s 0 0
     next = ap (λ k. getD t k 0) (sym (add-zero (p + 1))) ∙ sym (getD-drop (p + 1) t 0 0) ∙ ap (λ r. getD r 0 0) (tail-at t p b s e)
+
     here : getD t p 0 ≡ b
     here = head-at t p b s e
+
     one : (v : Bool) → isBlank b (getD s 0 0) ≡ v → NoBlank t (p + 1 + blanks s) → Blank t (p + cond v (suc (blanks s)) 0) j → ⊥
     one true w ih y = let q : p + suc (blanks s) ≡ p + 1 + blanks s = omega arith in ih j (subst (λ k. Blank t k j) q y)
     one false w ih y =

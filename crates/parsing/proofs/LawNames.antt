@@ -51,6 +51,7 @@ spells-stops t i j b s k x = byte k x
   where
     clash : (c : ℕ) → getD t j 0 ≡ c → 0 < c → (c ≡ 44 → ⊥) → (c ≡ 41 → ⊥) → ⊥
     clash c e h n m = ⊎-elim (λ q. n (sym e ∙ q)) (λ q. m (sym e ∙ q)) (s .end (inside t j c e h))
+
     byte : (k : ℕ) → Blank t j k → ⊥
     byte k (Blank.space e) = clash 32 e (omega arith) (λ q. omega arith) (λ q. omega arith)
     byte k (Blank.newline e) = clash 10 e (omega arith) (λ q. omega arith) (λ q. omega arith)
@@ -95,7 +96,8 @@ text-whole t a j b h s =
     record {
       name = record { name = f .name; bytes = spelt t (w .out) (f .name) };
       reads = record { value = ap (λ v. Ok v) q; quiet = f .quiet; pos = f .end; parts = sym (add-zero (a .parts)) };
-      bytes = f .bytes }
+      bytes = f .bytes;
+    }
 
 -- a name that is a glob is a well-formed one
 abbrev pub FineBy : MatchKind → List ℕ → Type 0
@@ -131,10 +133,11 @@ check-sound p Glob n b v c = go (isSome (itemsOf (n .bytes))) refl c
   where
     go : (y : Bool) → isSome (itemsOf (n .bytes)) ≡ y → Clean (cond y (done (Some n) b) (note None (reportOf InvalidGlob p (b .pos - p)) b)) v → Checked p Glob n b v
     go true e c = record {
-        is = same-some n b v c;
-        fine = well-formed-is (n .bytes) .0 e;
-        pos = ap (λ (y : Bool). cond y (done (Some n) b) (note None (reportOf InvalidGlob p (b .pos - p)) b) .pos) e;
-        parts = ap (λ (y : Bool). cond y (done (Some n) b) (note None (reportOf InvalidGlob p (b .pos - p)) b) .parts) e }
+      is = same-some n b v c;
+      fine = well-formed-is (n .bytes) .0 e;
+      pos = ap (λ (y : Bool). cond y (done (Some n) b) (note None (reportOf InvalidGlob p (b .pos - p)) b) .pos) e;
+      parts = ap (λ (y : Bool). cond y (done (Some n) b) (note None (reportOf InvalidGlob p (b .pos - p)) b) .parts) e;
+    }
     go false e c = let q = c .quiet in absurd (let z : _≡_ {A = ℕ} 0 1 = cc in omega arith)
 
 done-reads : {X : Type 0} (x : X) (b : At) → Reads b (done x b) (b .pos) 0 x
@@ -150,7 +153,8 @@ check-whole p Glob n b f =
       value = ap (λ (o : Out (Option Called)). o .value) same;
       quiet = ap (λ (o : Out (Option Called)). o .reports) same;
       pos = ap (λ (o : Out (Option Called)). o .pos) same;
-      parts = ap (λ (o : Out (Option Called)). o .parts) same ∙ sym (add-zero (b .parts)) }
+      parts = ap (λ (o : Out (Option Called)). o .parts) same ∙ sym (add-zero (b .parts));
+    }
 
 pub matcher-sound : (t : List ℕ) (k : MatchKind) (a : At) (v : Option Matched) → a .pos ≤ length t → Clean (matcherAt t k a) v → Matcher t k a v
 unfolding matcherAt textAt
@@ -160,9 +164,9 @@ matcher-sound t k a v h c =
     let x = text-sound t a (s .x) h (s .first) in
     let second : Clean ((checked (a .pos) k (Some (x .name)) ⨾ matchedBy k) b) v = subst (λ (n : Option Called). Clean ((checked (a .pos) k n ⨾ matchedBy k) b) v) (x .is) (s .second) in
     let pos : (textAt t ⨾ (λ n. checked (a .pos) k n ⨾ matchedBy k)) a .pos ≡ (checked (a .pos) k (Some (x .name)) ⨾ matchedBy k) b .pos =
-        s .pos ∙ ap (λ (n : Option Called). (checked (a .pos) k n ⨾ matchedBy k) b .pos) (x .is) in
+    s .pos ∙ ap (λ (n : Option Called). (checked (a .pos) k n ⨾ matchedBy k) b .pos) (x .is) in
     let parts : (textAt t ⨾ (λ n. checked (a .pos) k n ⨾ matchedBy k)) a .parts ≡ (checked (a .pos) k (Some (x .name)) ⨾ matchedBy k) b .parts =
-        s .parts ∙ ap (λ (n : Option Called). (checked (a .pos) k n ⨾ matchedBy k) b .parts) (x .is) in
+    s .parts ∙ ap (λ (n : Option Called). (checked (a .pos) k n ⨾ matchedBy k) b .parts) (x .is) in
     let r = clean-then (checked (a .pos) k (Some (x .name))) (matchedBy k) b v second in
     let d = check-sound (a .pos) k (x .name) b (r .x) (r .first) in
     let e = after b (checked (a .pos) k (Some (x .name)) b) in
@@ -173,7 +177,8 @@ matcher-sound t k a v h c =
       is = (let q = third .value in cc);
       spells = subst (λ j. Spells t (a .pos) j (x .name .bytes)) (sym to) (x .spells);
       fine = d .fine;
-      parts = parts ∙ r .parts ∙ ap (λ (n : Option Called). matchedBy k n e .parts) (d .is) ∙ d .parts }
+      parts = parts ∙ r .parts ∙ ap (λ (n : Option Called). matchedBy k n e .parts) (d .is) ∙ d .parts;
+    }
 
 pub matcher-whole : (t : List ℕ) (k : MatchKind) (a : At) (j : ℕ) (b : List ℕ) → a .pos ≤ length t → Spells t (a .pos) j b → FineBy k b → Matching t k a j b
 unfolding matcherAt
@@ -184,9 +189,10 @@ matcher-whole t k a j b h s f =
     let fine : FineBy k (n .bytes) = subst (FineBy k) (sym (x .bytes)) f in
     let c = check-whole (a .pos) k n at fine in
     let m = reads-then (checked (a .pos) k (Some n)) (matchedBy k) at (at .pos) (checked (a .pos) k (Some n) at .pos) 0 0 (Some n) (Some (record { kind = k; called = n })) c
-          (record { value = refl; quiet = refl; pos = refl; parts = sym (add-zero (after at (checked (a .pos) k (Some n) at) .parts)) }) in
+    (record { value = refl; quiet = refl; pos = refl; parts = sym (add-zero (after at (checked (a .pos) k (Some n) at) .parts)) }) in
     let w = reads-then (textAt t) (λ y. checked (a .pos) k y ⨾ matchedBy k) a j (checked (a .pos) k (Some n) at .pos) 0 0 (Some n) (Some (record { kind = k; called = n })) (x .reads) m in
     record {
       called = n;
       reads = record { value = w .value; quiet = w .quiet; pos = w .pos ∙ c .pos ∙ x .reads .pos; parts = w .parts };
-      bytes = x .bytes }
+      bytes = x .bytes;
+    }

@@ -153,6 +153,7 @@ opening-sound t p o h = go (firstOn setEntries (drop p t)) refl (sym (opening-on
     late (Some x) e q =
         let same : record { lead = x .says; length = length (x .word) } ≡ o = cc in
         subst (λ (y : Opening). Opens t p (p + y .length) (y .lead)) same (first-sound (OpensBy t p) signEntries (drop p t) x (sign-found t p) e)
+
     go : (f : Option (Entry Lead)) → firstOn setEntries (drop p t) ≡ f → orElse (opening f) (opening (firstOn signEntries (drop p t))) ≡ Some o → Opens t p (p + o .length) (o .lead)
     go None e q = late (firstOn signEntries (drop p t)) refl q
     go (Some x) e q =
@@ -190,7 +191,7 @@ sign-sound t p es F all s h = go (firstOn es (drop p t)) refl h
     go (Some x) e q =
         let same : record { operator = x .says .operator; fault = x .says .fault; length = length (x .word) } ≡ s = cc in
         subst (λ (y : Sign). F p (p + y .length) (y .operator) (y .fault)) same
-          (first-sound (λ e. F p (p + length (e .word)) (e .says .operator) (e .says .fault)) es (drop p t) x all e)
+        (first-sound (λ e. F p (p + length (e .word)) (e .says .operator) (e .says .fault)) es (drop p t) x all e)
 
 pub or-sound : (t : List ℕ) (p : ℕ) (s : Sign) → orSignAt t p ≡ Some s → OrFound t p (p + s .length) (s .operator) (s .fault)
 or-sound t p s h = sign-sound t p orEntries (OrFound t) (or-found t p) s (sym (or-sign-on t p) ∙ h)

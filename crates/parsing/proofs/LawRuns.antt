@@ -31,7 +31,7 @@ reads-then {X} {Y} f k a i j n m x y p q =
       value = ap (λ (o : Out Y). o .value) whole ∙ q .value;
       quiet = ap (λ (o : Out Y). o .reports) whole ∙ ap (λ r. r ++ k x (after a (f a)) .reports) (p .quiet) ∙ q .quiet;
       pos = ap (λ (o : Out Y). o .pos) whole ∙ q .pos;
-      parts = ap (λ (o : Out Y). o .parts) whole ∙ q .parts ∙ ap (λ c. c + m) (p .parts) ∙ add-assoc (a .parts) n m
+      parts = ap (λ (o : Out Y). o .parts) whole ∙ q .parts ∙ ap (λ c. c + m) (p .parts) ∙ add-assoc (a .parts) n m;
     }
 
 -- no report and no stop
@@ -60,7 +60,8 @@ clean-then {X} {Y} f k a y c = go (f a .value) refl
           first = record { value = e; quiet = b .0 };
           second = record { value = sym (ap (λ (o : Out Y). o .value) whole) ∙ c .value; quiet = b .1 };
           pos = ap (λ (o : Out Y). o .pos) whole;
-          parts = ap (λ (o : Out Y). o .parts) whole }
+          parts = ap (λ (o : Out Y). o .parts) whole;
+        }
     go (Err q) e =
         let whole : follow a (f a) k (f a .value) ≡ follow a (f a) k (Err q) = ap (follow a (f a) k) e in
         let o : _≡_ {A = Result Y ReadingFault} (Err q) (Ok y) = sym (ap (λ (o : Out Y). o .value) whole) ∙ c .value in

@@ -51,11 +51,13 @@ expect-sound t b k a u c = go (isAt t (skip t (a .pos)) b) refl c
   where
     q : ℕ
     q = skip t (a .pos)
+
     go : (x : Bool) → isAt t q b ≡ x → Clean (cond x (moved (q + 1) a) (note tt (reportOf k (a .pos) 0) a)) u → Expected t b k a
     go true e c = record {
-        stands = at-stands t q b e;
-        pos = ap (λ (x : Bool). cond x (moved (q + 1) a) (note tt (reportOf k (a .pos) 0) a) .pos) e;
-        parts = ap (λ (x : Bool). cond x (moved (q + 1) a) (note tt (reportOf k (a .pos) 0) a) .parts) e }
+      stands = at-stands t q b e;
+      pos = ap (λ (x : Bool). cond x (moved (q + 1) a) (note tt (reportOf k (a .pos) 0) a) .pos) e;
+      parts = ap (λ (x : Bool). cond x (moved (q + 1) a) (note tt (reportOf k (a .pos) 0) a) .parts) e;
+    }
     go false e c = let r = c .quiet in absurd (let z : _≡_ {A = ℕ} 0 1 = cc in omega arith)
 
 pub expect-whole : (t : List ℕ) (b : ℕ) (k : ReportKind) (a : At) (i j : ℕ) → 0 < b → (b ≡ 32 → ⊥) → (b ≡ 10 → ⊥) → (b ≡ 13 → ⊥) →
@@ -66,7 +68,7 @@ expect-whole t b k a i j h x y z bl st =
     let e : isAt t (skip t (a .pos)) b ≡ true = ap (λ p. isAt t p b) q ∙ byte-at t i b (w .byte) h in
     let same : expect t b k a ≡ moved (skip t (a .pos) + 1) a = ap (λ (v : Bool). cond v (moved (skip t (a .pos) + 1) a) (note tt (reportOf k (a .pos) 0) a)) e in
     subst (λ (o : Out (Unit {0})). Reads a o j 0 tt) (sym same)
-      (record { value = refl; quiet = refl; pos = ap (λ p. p + 1) q ∙ sym (w .end); parts = sym (add-zero (a .parts)) })
+    (record { value = refl; quiet = refl; pos = ap (λ p. p + 1) q ∙ sym (w .end); parts = sym (add-zero (a .parts)) })
 
 -- no comma
 record NoComma (t : List ℕ) (a : At) : Type 0 where
@@ -79,6 +81,7 @@ comma-sound t a u c = go (isAt t (a .pos) 44) refl c
   where
     r : Out (Unit {0})
     r = told tt (reportOf UnexpectedComma (a .pos) 0) (closing t (a .pos)) a
+
     go : (x : Bool) → isAt t (a .pos) 44 ≡ x → Clean (cond x r (done tt a)) u → NoComma t a
     go true e c = let q = c .quiet in absurd (let z : _≡_ {A = ℕ} 0 1 = cc in omega arith)
     go false e c = record { pos = ap (λ (x : Bool). cond x r (done tt a) .pos) e; parts = ap (λ (x : Bool). cond x r (done tt a) .parts) e }
@@ -98,7 +101,7 @@ closed-sound t a u free c =
     let q : skip t (b .pos) ≡ a .pos = ap (skip t) (n .pos) ∙ blanks-end t Blanks.none free in
     let to : closedAt t a .pos ≡ skip t (b .pos) + 1 = s .pos ∙ e .pos in
     let st : Stands t (41 ∷ []) (a .pos) (closedAt t a .pos) =
-        subst (Stands t (41 ∷ []) (a .pos)) (sym to) (subst (λ i. Stands t (41 ∷ []) i (skip t (b .pos) + 1)) q (e .stands)) in
+    subst (Stands t (41 ∷ []) (a .pos)) (sym to) (subst (λ i. Stands t (41 ∷ []) i (skip t (b .pos) + 1)) q (e .stands)) in
     record { stands = st; within = stands-byte t 41 (a .pos) (closedAt t a .pos) (omega arith) st .within; parts = s .parts ∙ e .parts ∙ n .parts }
 
 pub closed-whole : (t : List ℕ) (a : At) (j : ℕ) → Stands t (codes ")") (a .pos) j → Reads a (closedAt t a) j 0 tt
@@ -110,7 +113,7 @@ closed-whole t a j st =
     let f : Reads a (commaAt t a) (a .pos) 0 tt = subst (λ (o : Out (Unit {0})). Reads a o (a .pos) 0 tt) (sym same) (record { value = refl; quiet = refl; pos = refl; parts = sym (add-zero (a .parts)) }) in
     let b = after a (commaAt t a) in
     reads-then (commaAt t) (λ _. closeAt t) a (a .pos) j 0 0 tt tt f
-      (expect-whole t 41 ExpectedCloseParenthesis b (a .pos) j (omega arith) (λ q. omega arith) (λ q. omega arith) (λ q. omega arith) (subst (λ i. Blanks t i (a .pos)) (sym (f .pos)) Blanks.none) st)
+    (expect-whole t 41 ExpectedCloseParenthesis b (a .pos) j (omega arith) (λ q. omega arith) (λ q. omega arith) (λ q. omega arith) (subst (λ i. Blanks t i (a .pos)) (sym (f .pos)) Blanks.none) st)
 
 -- a set that was read without a report, from its name at i
 pub record SetRead (t : List ℕ) (i : ℕ) (a : At) (o : Out (Tree Called)) (x : Tree Called) : Type 0 where
@@ -151,7 +154,8 @@ open-sound t a u c =
     record {
       rule = record { start = skip t (a .pos); blanks = skip-blanks t (a .pos); bracket = st };
       within = stands-byte t 40 (skip t (a .pos)) (openAt t a .pos) (omega arith) st .within;
-      parts = e .parts }
+      parts = e .parts;
+    }
 
 open-whole : (t : List ℕ) (a : At) (j : ℕ) → Open t (a .pos) j → Reads a (openAt t a) j 0 tt
 open-whole t a j o = expect-whole t 40 ExpectedOpenParenthesis a (o .start) j (omega arith) (λ q. omega arith) (λ q. omega arith) (λ q. omega arith) (o .blanks) (o .bracket)
@@ -176,7 +180,8 @@ unary-sound t p i a x st c =
       rule = subst (λ j. Set t i j (Leaf.matched p (m .kind) (m .called .bytes) (between (a1 .pos) (a2 .pos)))) (sym to) (Set.matched st (o .rule) (y .rule) (z .stands));
       fine = fine-leaf p (m .kind) (m .called .bytes) (between (a1 .pos) (a2 .pos)) (y .fine);
       within = subst (λ j. j ≤ length t) (sym to) (z .within);
-      parts = s1 .parts ∙ s2 .parts ∙ s3 .parts ∙ z .parts ∙ y .parts ∙ o .parts }
+      parts = s1 .parts ∙ s2 .parts ∙ s3 .parts ∙ z .parts ∙ y .parts ∙ o .parts;
+    }
 
 -- a set of the rules that is read
 pub record SetReads (a : At) (o : Out (Tree Called)) (j : ℕ) (l : Leaf (List ℕ)) : Type 0 where
@@ -202,7 +207,8 @@ unary-whole t p a l n j m b o arg st f =
     record {
       leaf = leaf;
       reads = reads-then (openAt t) (λ _ a. (argumentAt t (usual p) ⨾ (λ m b. (closedAt t ⨾ (λ _. done (matchedLeaf p (between (a .pos) (b .pos)) m))) b)) a) a l j 0 0 tt (Tree.set leaf) r1 r5;
-      same = ap (λ c. Leaf.matched p m c (between (a1 .pos) (a2 .pos))) (y .bytes) ∙ ap (λ i. Leaf.matched p m b (between i (a2 .pos))) (r1 .pos) ∙ ap (λ i. Leaf.matched p m b (between l i)) (y .reads .pos) }
+      same = ap (λ c. Leaf.matched p m c (between (a1 .pos) (a2 .pos))) (y .bytes) ∙ ap (λ i. Leaf.matched p m b (between i (a2 .pos))) (r1 .pos) ∙ ap (λ i. Leaf.matched p m b (between l i)) (y .reads .pos);
+    }
 
 -- the platform
 platform-says : (at : Place) (n : Called) (b : At) (x : Tree Called) → Clean (platformLeaf at (Some n) b) x →
@@ -213,9 +219,13 @@ platform-says at n b x c = go (platformOf (n .bytes)) refl c
         (h : BuildPlatform) × PlatformName h (n .bytes) × (x ≡ Tree.set (Leaf.platform h at)) × (platformBy at (platformOf (n .bytes)) b .pos ≡ b .pos) × (platformBy at (platformOf (n .bytes)) b .parts ≡ b .parts)
     go None e c = let q = c .quiet in absurd (let z : _≡_ {A = ℕ} 0 1 = cc in omega arith)
     go (Some h) e c =
-        let q = c .value in
-        (h, platform-sound (n .bytes) h e, (let r : x ≡ Tree.set (Leaf.platform h at) = cc in r),
-         ap (λ (o : Option BuildPlatform). platformBy at o b .pos) e, ap (λ (o : Option BuildPlatform). platformBy at o b .parts) e)
+        let q = c .value in (
+          h,
+          platform-sound (n .bytes) h e,
+          (let r : x ≡ Tree.set (Leaf.platform h at) = cc in r),
+          ap (λ (o : Option BuildPlatform). platformBy at o b .pos) e,
+          ap (λ (o : Option BuildPlatform). platformBy at o b .parts) e,
+        )
 
 pub platform-set-sound : (t : List ℕ) (i : ℕ) (a : At) (x : Tree Called) → Stands t (codes "platform") i (a .pos) → Clean (platformAt t a) x → SetRead t i a (platformAt t a) x
 unfolding platformAt textAt
@@ -242,7 +252,8 @@ platform-set-sound t i a x st c =
       rule = subst (λ j. Set t i j (Leaf.platform (w .0) at)) (sym to) (Set.platform st (o .rule) bl (skip-stops t (a1 .pos)) (y .spells) (w .1) (z .stands));
       fine = tt;
       within = subst (λ j. j ≤ length t) (sym to) (z .within);
-      parts = s1 .parts ∙ s2 .parts ∙ s3 .parts ∙ s4 .parts ∙ ap (λ (n : Option Called). platformLeaf at n a4 .parts) (y .is) ∙ w .4 ∙ z .parts ∙ o .parts }
+      parts = s1 .parts ∙ s2 .parts ∙ s3 .parts ∙ s4 .parts ∙ ap (λ (n : Option Called). platformLeaf at n a4 .parts) (y .is) ∙ w .4 ∙ z .parts ∙ o .parts;
+    }
 
 pub platform-set-whole : (t : List ℕ) (a : At) (l m n j : ℕ) (h : BuildPlatform) (b : List ℕ) → Open t (a .pos) l → Blanks t l m → NoBlank t m → Spells t m n b → PlatformName h b → Stands t (codes ")") n j →
     SetReads a (platformAt t a) j (Leaf.platform h (between l n))
@@ -261,15 +272,16 @@ platform-set-whole t a l m n j h b o bl free s name st =
     let leaf : Leaf Called = Leaf.platform h at in
     let e : platformOf (y .name .bytes) ≡ Some h = ap platformOf (y .bytes) ∙ platform-whole b h name in
     let r5 : Reads a4 (platformLeaf at (Some (y .name)) a4) j 0 (Tree.set leaf) =
-        subst (λ (p : Option BuildPlatform). Reads a4 (platformBy at p a4) j 0 (Tree.set leaf)) (sym e) (done-at (Tree.set leaf) a4 j (r4 .pos)) in
+    subst (λ (p : Option BuildPlatform). Reads a4 (platformBy at p a4) j 0 (Tree.set leaf)) (sym e) (done-at (Tree.set leaf) a4 j (r4 .pos)) in
     let r6 = reads-then (closedAt t) (λ _. platformLeaf at (Some (y .name))) a3 j j 0 0 tt (Tree.set leaf) r4 r5 in
     let r7 = reads-then (textAt t) (λ n b. (closedAt t ⨾ (λ _. platformLeaf (between (a1 .pos) (b .pos)) n)) b) a2 n j 0 0 (Some (y .name)) (Tree.set leaf) (y .reads) r6 in
     let r8 = reads-then (moved (skip t (a1 .pos))) (λ _. textAt t ⨾ (λ n b. (closedAt t ⨾ (λ _. platformLeaf (between (a1 .pos) (b .pos)) n)) b)) a1 (skip t (a1 .pos)) j 0 0 tt (Tree.set leaf)
-        (record { value = refl; quiet = refl; pos = refl; parts = sym (add-zero (a1 .parts)) }) r7 in
+    (record { value = refl; quiet = refl; pos = refl; parts = sym (add-zero (a1 .parts)) }) r7 in
     record {
       leaf = leaf;
       reads = reads-then (openAt t) (λ _ a. (moved (skip t (a .pos)) ⨾ (λ _. textAt t ⨾ (λ n b. (closedAt t ⨾ (λ _. platformLeaf (between (a .pos) (b .pos)) n)) b))) a) a l j 0 0 tt (Tree.set leaf) r1 r8;
-      same = ap (λ i. Leaf.platform h (between i (a3 .pos))) (r1 .pos) ∙ ap (λ i. Leaf.platform h (between l i)) (y .reads .pos) }
+      same = ap (λ i. Leaf.platform h (between i (a3 .pos))) (r1 .pos) ∙ ap (λ i. Leaf.platform h (between l i)) (y .reads .pos);
+    }
 
 -- the first `)`
 unclosed-on : (s : List ℕ) → unclosed s ≤ length s
@@ -320,17 +332,22 @@ nothing-sound t a u h c = go (allWhite s) refl c
   where
     n : ℕ
     n = closing t (a .pos) - a .pos
+
     s : List ℕ
     s = take n (drop (a .pos) t)
+
     yes′ : Out (Unit {0})
     yes′ = moved (closing t (a .pos)) a
+
     no′ : Out (Unit {0})
     no′ = told tt (reportOf UnexpectedArgument (a .pos) n) (closing t (a .pos)) a
+
     go : (x : Bool) → allWhite s ≡ x → Clean (cond x yes′ no′) u → Empty t a
     go true e c = record {
-        white = white-sound s (eqb-true (whiteEnd s 0) (length s) e);
-        pos = ap (λ (x : Bool). cond x yes′ no′ .pos) e;
-        parts = ap (λ (x : Bool). cond x yes′ no′ .parts) e }
+      white = white-sound s (eqb-true (whiteEnd s 0) (length s) e);
+      pos = ap (λ (x : Bool). cond x yes′ no′ .pos) e;
+      parts = ap (λ (x : Bool). cond x yes′ no′ .parts) e;
+    }
     go false e c = let q = c .quiet in absurd (let z : _≡_ {A = ℕ} 0 1 = cc in omega arith)
 
 nullary-rule : (t : List ℕ) (n : Nullary) (i j : ℕ) → Nothing t (nullaryName n) i j → (leaf : Leaf Called) × (nullaryLeaf n (between i j) ≡ Tree.set leaf) × Set t i j (bytesLeaf leaf) × fineLeaf (bytesLeaf leaf)
@@ -351,11 +368,18 @@ nullary-sound t n i a x st c =
     let e = expect-sound t 41 ExpectedCloseParenthesis a2 (s3 .x) (s3 .first) in
     let q : skip t (a2 .pos) ≡ closing t (a1 .pos) = ap (skip t) (y .pos) ∙ blanks-end t Blanks.none (closing-free t (a1 .pos) (o .within)) in
     let st3 : Stands t (41 ∷ []) (closing t (a1 .pos)) (closeAt t a2 .pos) =
-        subst (Stands t (41 ∷ []) (closing t (a1 .pos))) (sym (e .pos)) (subst (λ k. Stands t (41 ∷ []) k (skip t (a2 .pos) + 1)) q (e .stands)) in
+    subst (Stands t (41 ∷ []) (closing t (a1 .pos))) (sym (e .pos)) (subst (λ k. Stands t (41 ∷ []) k (skip t (a2 .pos) + 1)) q (e .stands)) in
     let to : nullaryAt t n i a .pos ≡ closeAt t a2 .pos = s1 .pos ∙ s2 .pos ∙ s3 .pos in
     let rule : Nothing t (nullaryName n) i (closeAt t a2 .pos) = record {
-          named = a .pos; from = a1 .pos; to = closing t (a1 .pos); name = st; opened = o .rule;
-          order = closing-on t (a1 .pos) (o .within) .0; white = y .white; close = st3 } in
+      named = a .pos;
+      from = a1 .pos;
+      to = closing t (a1 .pos);
+      name = st;
+      opened = o .rule;
+      order = closing-on t (a1 .pos) (o .within) .0;
+      white = y .white;
+      close = st3;
+    } in
     let r = nullary-rule t n i (closeAt t a2 .pos) rule in
     record {
       leaf = r .0;
@@ -363,7 +387,8 @@ nullary-sound t n i a x st c =
       rule = subst (λ j. Set t i j (bytesLeaf (r .0))) (sym to) (r .2);
       fine = r .3;
       within = subst (λ j. j ≤ length t) (sym to) (stands-byte t 41 (closing t (a1 .pos)) (closeAt t a2 .pos) (omega arith) st3 .within);
-      parts = s1 .parts ∙ s2 .parts ∙ s3 .parts ∙ e .parts ∙ y .parts ∙ o .parts }
+      parts = s1 .parts ∙ s2 .parts ∙ s3 .parts ∙ e .parts ∙ y .parts ∙ o .parts;
+    }
 
 -- white space has no `)`
 pub closing-is : (t : List ℕ) (i j : ℕ) → i ≤ j → White (take (j - i) (drop i t)) → getD t j 0 ≡ 41 → closing t i ≡ j
@@ -373,9 +398,9 @@ closing-is t i j h w e =
     let within : j < length t = inside t j 41 e (omega arith) in
     let size : length (take n (drop i t)) ≡ n = length-take-le n (drop i t) (omega (arith, length-drop i t)) in
     let each : (k : ℕ) → k < n → getD (drop i t) k 0 ≡ 41 → ⊥ = λ k lt f.
-          let same : getD (take n (drop i t)) k 0 ≡ 41 = getD-take n (drop i t) k 0 lt ∙ f in
-          let d = without-byte dark (take n (drop i t)) k w (omega arith) (omega arith) in
-          both-ways (dark 41) (sym (ap dark same) ∙ d) refl in
+    let same : getD (take n (drop i t)) k 0 ≡ 41 = getD-take n (drop i t) k 0 lt ∙ f in
+    let d = without-byte dark (take n (drop i t)) k w (omega arith) (omega arith) in
+    both-ways (dark 41) (sym (ap dark same) ∙ d) refl in
     let u = unclosed-is (drop i t) n each (getD-drop i t n 0 ∙ ap (λ k. getD t k 0) (let z : i + n ≡ j = omega arith in z) ∙ e) in
     omega (arith, u)
 

@@ -51,11 +51,13 @@ part-sound p a u c = go (ltb (a .parts) 128) refl c
   where
     one : Out (Unit {0})
     one = record { pos = a .pos; parts = a .parts + 1; reports = []; bytes = []; value = Ok tt }
+
     go : (x : Bool) → ltb (a .parts) 128 ≡ x → Clean (cond x one (halt (Crowded p (a .count)) a)) u → Parted p a
     go true e c = record {
-        room = ltb-true (a .parts) 128 e;
-        pos = ap (λ (x : Bool). cond x one (halt (Crowded p (a .count)) a) .pos) e;
-        parts = ap (λ (x : Bool). cond x one (halt (Crowded p (a .count)) a) .parts) e }
+      room = ltb-true (a .parts) 128 e;
+      pos = ap (λ (x : Bool). cond x one (halt (Crowded p (a .count)) a) .pos) e;
+      parts = ap (λ (x : Bool). cond x one (halt (Crowded p (a .count)) a) .parts) e;
+    }
     go false e c = let v = c .value in absurd (let z : _≡_ {A = ℕ} 0 1 = cc in omega arith)
 
 -- a sign that was read
@@ -96,11 +98,12 @@ sign-got t S a (Some s) found v c =
     let w = subst (FoundBy t S p (p + s .length) (s .operator)) (f .0) (found s refl) in
     let is : Some (s .operator) ≡ v = let e = s3 .second .value in cc in
     subst (SignGot t S a (signFor p (Some s) a)) is
-      (record {
-         rule = subst (λ q. S p q (s .operator)) (sym pos) (w .0);
-         within = subst (λ q. q ≤ length t) (sym pos) (w .1);
-         parts = s1 .parts ∙ s2 .parts ∙ s3 .parts ∙ f .2 ∙ h .parts;
-         room = h .room })
+    (record {
+      rule = subst (λ q. S p q (s .operator)) (sym pos) (w .0);
+      within = subst (λ q. q ≤ length t) (sym pos) (w .1);
+      parts = s1 .parts ∙ s2 .parts ∙ s3 .parts ∙ f .2 ∙ h .parts;
+      room = h .room;
+    })
 
 keyword-on : (t w : List ℕ) (i j : ℕ) → 0 < length w → Keyword t w i j → j ≤ length t
 keyword-on t w i j h k = stands-on t w i j h (k .stands)
@@ -157,7 +160,6 @@ module _ (t : List ℕ) (n : ℕ) (S : ℕ → ℕ → Operator → Type 0) (One
     (more : (i k l m j : ℕ) (o : Operator) (x y : Tree (List ℕ)) → Many i k x → Blanks t k l → S l m o → One m j y → Many i j (Tree.joined o x y))
     (sign : At → Out (Option Operator)) (signs : (a : At) (v : Option Operator) → Clean (sign a) v → SignGot t S a (sign a) v)
     (one : At → Out (Tree Called)) (derives : Derives t n one One) where
-
   -- from a, where x was read since i upon m parts
   abbrev Loops : ℕ → Type 0
   Loops f = (i m : ℕ) (a : At) (x y : Tree Called) → Got t n Many i m (a .pos) (a .parts) (bytesTree x) → Clean (joinedAt sign one f x a) y →
@@ -173,10 +175,13 @@ module _ (t : List ℕ) (n : ℕ) (S : ℕ → ℕ → Operator → Type 0) (One
     where
       a1 : At
       a1 = after a (sign a)
+
       rest : Option Operator → Out (Tree Called)
       rest v = onward x (λ o. one ⨾ (λ z. joinedAt sign one f (Tree.joined o x z))) v a1
+
       whole : Out (Tree Called)
       whole = (sign ⨾ onward x (λ o. one ⨾ (λ z. joinedAt sign one f (Tree.joined o x z)))) a
+
       go : Loops f → (v : Option Operator) → SignGot t S a (sign a) v → Clean (rest v) y → whole .pos ≡ rest v .pos → whole .parts ≡ rest v .parts → Got t n Many i m (whole .pos) (whole .parts) (bytesTree y)
       go ih None w c2 p q = got-at (p ∙ w .0) (q ∙ w .1) (ap bytesTree (let e = c2 .value in let r : y ≡ x = cc in r)) g
       go ih (Some o) w c2 p q =
@@ -185,12 +190,13 @@ module _ (t : List ℕ) (n : ℕ) (S : ℕ → ℕ → Operator → Type 0) (One
           let z = s2 .x in
           let a2 = after a1 (one a1) in
           let k : Got t n Many i m (a2 .pos) (a2 .parts) (bytesTree (Tree.joined o x z)) = record {
-                rule = more i (a .pos) (skip t (a .pos)) (sign a .pos) (one a1 .pos) o (bytesTree x) (bytesTree z) (g .rule) (skip-blanks t (a .pos)) (w .rule) (d .rule);
-                nested = omega (arith, g .nested, d .nested);
-                counted = omega (arith, d .counted, w .parts, g .counted);
-                few = d .few;
-                fine = (g .fine, d .fine);
-                within = d .within } in
+            rule = more i (a .pos) (skip t (a .pos)) (sign a .pos) (one a1 .pos) o (bytesTree x) (bytesTree z) (g .rule) (skip-blanks t (a .pos)) (w .rule) (d .rule);
+            nested = omega (arith, g .nested, d .nested);
+            counted = omega (arith, d .counted, w .parts, g .counted);
+            few = d .few;
+            fine = (g .fine, d .fine);
+            within = d .within;
+          } in
           got-at (p ∙ s2 .pos) (q ∙ s2 .parts) refl (ih i m a2 (Tree.joined o x z) y k (s2 .second))
 
   chain-derives : Derives t n (chainAt t sign one) Many
@@ -199,7 +205,13 @@ module _ (t : List ℕ) (n : ℕ) (S : ℕ → ℕ → Operator → Type 0) (One
       let s = clean-then one (joinedAt sign one (length t)) a y c in
       let d = derives a (s .x) h few (s .first) in
       let g : Got t n Many (a .pos) (a .parts) (one a .pos) (one a .parts) (bytesTree (s .x)) = record {
-            rule = first (a .pos) (one a .pos) (bytesTree (s .x)) (d .rule); nested = d .nested; counted = d .counted; few = d .few; fine = d .fine; within = d .within } in
+        rule = first (a .pos) (one a .pos) (bytesTree (s .x)) (d .rule);
+        nested = d .nested;
+        counted = d .counted;
+        few = d .few;
+        fine = d .fine;
+        within = d .within;
+      } in
       got-at (s .pos) (s .parts) refl (loop (length t) (a .pos) (a .parts) (after a (one a)) (s .x) y g (s .second))
 
 module _ (t : List ℕ) where
@@ -231,7 +243,8 @@ module _ (t : List ℕ) where
         counted = r .parts ∙ ps;
         few = omega (arith, r .parts, ps, room);
         fine = r .fine;
-        within = r .within })
+        within = r .within;
+      })
 
   -- an operand, by what follows a not sign and an opening bracket
   module _ (n : ℕ) (under : ℕ → Under) (negates : (q : ℕ) → Led n q (under q .not) (NotSign t q)) (groups : (q : ℕ) → Led n q (under q .group) (Stands t (codes "(") q)) where
@@ -257,11 +270,12 @@ module _ (t : List ℕ) where
       where
         q : ℕ
         q = skip t (a .pos)
+
         go : (o : Option Opening) → openingAt t q ≡ o → Clean (operandBy t under o a) x → Got t n (Basic t) (a .pos) (a .parts) (operandBy t under (openingAt t q) a .pos) (operandBy t under (openingAt t q) a .parts) (bytesTree x)
         go None e c = let r = c .quiet in absurd (let z : _≡_ {A = ℕ} 0 1 = cc in omega arith)
         go (Some o) e c =
             got-at (ap (λ (v : Option Opening). operandBy t under v a .pos) e) (ap (λ (v : Option Opening). operandBy t under v a .parts) e) refl
-              (operand-for a x q (skip-blanks t (a .pos)) (o .lead) (o .length) (opening-sound t q o e) c)
+            (operand-for a x q (skip-blanks t (a .pos)) (o .lead) (o .length) (opening-sound t q o e) c)
 
   not-on : (i j : ℕ) → NotSign t i j → j ≤ length t
   not-on i j (NotSign.word k) = keyword-on t (codes "not") i j (omega arith) k
@@ -278,7 +292,8 @@ module _ (t : List ℕ) where
         counted = omega (arith, g .counted, ps);
         few = g .few;
         fine = g .fine;
-        within = g .within })
+        within = g .within;
+      })
 
   group-led : (n : ℕ) → Derives t n (basicAt t n) (Basic t) → (q : ℕ) → Led (suc n) q (orAt t n ⨾ (λ x. closeAt t ⨾ (λ _. done (Tree.group x)))) (Stands t (codes "(") q)
   group-led n d q a x bl len st b at ps room c =
@@ -295,7 +310,8 @@ module _ (t : List ℕ) where
         counted = omega (arith, g .counted, ps);
         few = g .few;
         fine = g .fine;
-        within = stands-on t (41 ∷ []) (skip t (b1 .pos)) (closeAt t b1 .pos) (omega arith) st2 })
+        within = stands-on t (41 ∷ []) (skip t (b1 .pos)) (closeAt t b1 .pos) (omega arith) st2;
+      })
 
   pub basic-derives : (n : ℕ) → Derives t n (basicAt t n) (Basic t)
   unfolding basicAt
@@ -323,4 +339,5 @@ module _ (t : List ℕ) where
         filter = record { end = orAt t 32 a .pos; expr = g .rule; rest = end-sound b (s2 .x) (s2 .first) };
         nested = g .nested;
         parted = omega (arith, g .counted, g .few);
-        globs = g .fine })
+        globs = g .fine;
+      })

@@ -162,25 +162,28 @@ module _ (t : List ℕ) where
 
   nullary-by : (n : Nullary) (i j : ℕ) → Nothing t (nullaryName n) i j → SetBy i j (leafOf n i j)
   nullary-by n i j r = record {
-      name = sets.Nullary n;
-      length = length (nullaryName n);
-      opening = opening-at i (r .named) (nullaryName n) (lead.Set (sets.Nullary n)) (r .name) (nullary-opening n (drop (r .named) t));
-      apart = nullary-free t n i (r .named) (r .name);
-      body = record { from = r .from; to = r .to; opened = subst (λ e. Open t e (r .from)) (r .name .end) (r .opened); order = r .order; white = r .white; close = r .close; is = refl } }
+    name = sets.Nullary n;
+    length = length (nullaryName n);
+    opening = opening-at i (r .named) (nullaryName n) (lead.Set (sets.Nullary n)) (r .name) (nullary-opening n (drop (r .named) t));
+    apart = nullary-free t n i (r .named) (r .name);
+    body = record { from = r .from; to = r .to; opened = subst (λ e. Open t e (r .from)) (r .name .end) (r .opened); order = r .order; white = r .white; close = r .close; is = refl };
+  }
 
   set-by : (i j : ℕ) (x : Leaf (List ℕ)) → Set t i j x → SetBy i j x
   set-by i j x (Set.matched {p} {m} {b} {k} {l} {n} st o arg cl) = record {
-      name = sets.Matched p;
-      length = length (nameOf p);
-      opening = opening-at i k (nameOf p) (lead.Set (sets.Matched p)) st (set-opening p (drop k t) (open-byte t k l o));
-      apart = name-free t p i k st;
-      body = record { from = l; to = n; bytes = b; kind = m; opened = subst (λ e. Open t e l) (st .end) o; argument = arg; close = cl; is = refl } }
+    name = sets.Matched p;
+    length = length (nameOf p);
+    opening = opening-at i k (nameOf p) (lead.Set (sets.Matched p)) st (set-opening p (drop k t) (open-byte t k l o));
+    apart = name-free t p i k st;
+    body = record { from = l; to = n; bytes = b; kind = m; opened = subst (λ e. Open t e l) (st .end) o; argument = arg; close = cl; is = refl };
+  }
   set-by i j x (Set.platform {h} {b} {k} {l} {m} {n} st o bl fr s name cl) = record {
-      name = sets.Platform;
-      length = length (codes "platform");
-      opening = opening-at i k (codes "platform") (lead.Set sets.Platform) st (platform-opening (drop k t));
-      apart = free t 112 _ i k (omega arith) st;
-      body = record { from = l; start = m; to = n; bytes = b; which = h; opened = subst (λ e. Open t e l) (st .end) o; blanks = bl; apart = fr; spells = s; name = name; close = cl; is = refl } }
+    name = sets.Platform;
+    length = length (codes "platform");
+    opening = opening-at i k (codes "platform") (lead.Set sets.Platform) st (platform-opening (drop k t));
+    apart = free t 112 _ i k (omega arith) st;
+    body = record { from = l; start = m; to = n; bytes = b; which = h; opened = subst (λ e. Open t e l) (st .end) o; blanks = bl; apart = fr; spells = s; name = name; close = cl; is = refl };
+  }
   set-by i j x (Set.default r) = nullary-by nullary.Default i j r
   set-by i j x (Set.all r) = nullary-by nullary.All i j r
   set-by i j x (Set.none r) = nullary-by nullary.None i j r
@@ -191,8 +194,8 @@ module _ (t : List ℕ) where
       let a = argument-one p (v .from) (u .to) (v .to) (u .bytes) (v .bytes) (u .kind) (v .kind) (subst (λ n. Argument t p n (u .to) (u .bytes) (u .kind)) o (u .argument)) (v .argument) in
       let c = close-one (v .to) j k (subst (λ n. Stands t (codes ")") n j) (a .end) (u .close)) (v .close) in
       let leaves : Leaf.matched p (u .kind) (u .bytes) (between (u .from) (u .to)) ≡ Leaf.matched p (v .kind) (v .bytes) (between (v .from) (v .to)) =
-          ap (λ m. Leaf.matched p m (u .bytes) (between (u .from) (u .to))) (a .kind) ∙ ap (λ b. Leaf.matched p (v .kind) b (between (u .from) (u .to))) (a .bytes)
-          ∙ ap (λ n. Leaf.matched p (v .kind) (v .bytes) (between n (u .to))) o ∙ ap (λ n. Leaf.matched p (v .kind) (v .bytes) (between (v .from) n)) (a .end) in
+      ap (λ m. Leaf.matched p m (u .bytes) (between (u .from) (u .to))) (a .kind) ∙ ap (λ b. Leaf.matched p (v .kind) b (between (u .from) (u .to))) (a .bytes)
+      ∙ ap (λ n. Leaf.matched p (v .kind) (v .bytes) (between n (u .to))) o ∙ ap (λ n. Leaf.matched p (v .kind) (v .bytes) (between (v .from) n)) (a .end) in
       (c, u .is ∙ leaves ∙ sym (v .is))
   body-one sets.Platform i e j k x y u v =
       let o = open-one e (u .from) (v .from) (u .opened) (v .opened) in
@@ -203,7 +206,7 @@ module _ (t : List ℕ) where
       let w : u .which ≡ v .which = cc in
       let c = close-one (v .to) j k (subst (λ n. Stands t (codes ")") n j) (a .0) (u .close)) (v .close) in
       let leaves : _≡_ {A = Leaf (List ℕ)} (Leaf.platform (u .which) (between (u .from) (u .to))) (Leaf.platform (v .which) (between (v .from) (v .to))) =
-          ap (λ z. Leaf.platform z (between (u .from) (u .to))) w ∙ ap (λ n. Leaf.platform (v .which) (between n (u .to))) o ∙ ap (λ n. Leaf.platform (v .which) (between (v .from) n)) (a .0) in
+      ap (λ z. Leaf.platform z (between (u .from) (u .to))) w ∙ ap (λ n. Leaf.platform (v .which) (between n (u .to))) o ∙ ap (λ n. Leaf.platform (v .which) (between (v .from) n)) (a .0) in
       (c, u .is ∙ leaves ∙ sym (v .is))
   body-one (sets.Nullary n) i e j k x y u v =
       let o = open-one e (u .from) (v .from) (u .opened) (v .opened) in
@@ -230,13 +233,17 @@ module _ (t : List ℕ) where
 
   not-by : (i j : ℕ) → NotSign t i j → NotBy i j
   not-by i j (NotSign.word k) = record {
-      length = length (codes "not");
-      opening = opening-at i j (codes "not") lead.Not (k .stands) (not-opening (drop j t) (ap isWord (next t j) ∙ k .apart));
-      end = k .stands .end; apart = free t 110 _ i j (omega arith) (k .stands) }
+    length = length (codes "not");
+    opening = opening-at i j (codes "not") lead.Not (k .stands) (not-opening (drop j t) (ap isWord (next t j) ∙ k .apart));
+    end = k .stands .end;
+    apart = free t 110 _ i j (omega arith) (k .stands);
+  }
   not-by i j (NotSign.mark k) = record {
-      length = length (codes "!");
-      opening = opening-at i j (codes "!") lead.Not k (bang-opening (drop j t));
-      end = k .end; apart = free t 33 [] i j (omega arith) k }
+    length = length (codes "!");
+    opening = opening-at i j (codes "!") lead.Not k (bang-opening (drop j t));
+    end = k .end;
+    apart = free t 33 [] i j (omega arith) k;
+  }
 
   group-at : (i j : ℕ) → Stands t (codes "(") i j → openingAt t i ≡ opens lead.Group (codes "(")
   group-at i j st = opening-at i j (codes "(") lead.Group st (group-opening (drop j t))
@@ -298,7 +305,7 @@ module _ (t : List ℕ) where
           let h = signs k l m l′ m′ o o′ b s c u in
           let g = one m p p′ y y′ r (subst (λ (i : ℕ). One i p′ y′) (sym (h .0)) v) in
           let n1 : Tail p (Tree.joined o x y) j′ z′ =
-              subst (λ (q : ℕ). Tail q (Tree.joined o x y) j′ z′) (sym (g .0)) (subst (λ (a : Tree (List ℕ)). Tail p′ (Tree.joined o x a) j′ z′) (sym (g .1)) (subst (λ (a : Operator). Tail p′ (Tree.joined a x y′) j′ z′) (sym (h .1)) n)) in
+          subst (λ (q : ℕ). Tail q (Tree.joined o x y) j′ z′) (sym (g .0)) (subst (λ (a : Tree (List ℕ)). Tail p′ (Tree.joined o x a) j′ z′) (sym (g .1)) (subst (λ (a : Operator). Tail p′ (Tree.joined a x y′) j′ z′) (sym (h .1)) n)) in
           tail-one one w n1 e f
 
   abbrev AndEnd : ℕ → Type 0

@@ -55,8 +55,8 @@ in-range P c a b n e p h = let w = and-parts (ltb b c) (ltb c (a + n)) h in amon
 white-each : (P : ℕ → Type 0) → Whites P → (c : ℕ) → white c ≡ true → P c
 white-each P w c =
     one-more P c 12288 _ (w .ideographic) (one-more P c 8287 _ (w .medium) (one-more P c 8239 _ (w .narrow) (one-more P c 8233 _ (w .paragraph) (one-more P c 8232 _ (w .line)
-      (λ h. ⊎-elim (one-more P c 5760 _ (w .ogham) (one-more P c 160 _ (w .noBreak) (one-more P c 133 _ (w .nextLine) (one-more P c 32 _ (w .space) (in-range P c 9 8 5 refl (w .controls))))))
-        (in-range P c 8192 8191 11 refl (w .wide)) (or-cases _ _ h))))))
+    (λ h. ⊎-elim (one-more P c 5760 _ (w .ogham) (one-more P c 160 _ (w .noBreak) (one-more P c 133 _ (w .nextLine) (one-more P c 32 _ (w .space) (in-range P c 9 8 5 refl (w .controls))))))
+    (in-range P c 8192 8191 11 refl (w .wide)) (or-cases _ _ h))))))
 
 -- the bytes of a character of white space are known as such
 abbrev Seen : ℕ → Type 0
@@ -65,10 +65,18 @@ Seen c = (rest : List ℕ) → whiteOf (getD (encode c ++ rest) 0 0) (getD (enco
 seen : (c : ℕ) → white c ≡ true → Seen c
 unfolding encode
 seen = white-each Seen (record {
-    controls = (λ r. refl, (λ r. refl, (λ r. refl, (λ r. refl, (λ r. refl, tt)))));
-    space = λ r. refl; nextLine = λ r. refl; noBreak = λ r. refl; ogham = λ r. refl;
-    wide = (λ r. refl, (λ r. refl, (λ r. refl, (λ r. refl, (λ r. refl, (λ r. refl, (λ r. refl, (λ r. refl, (λ r. refl, (λ r. refl, (λ r. refl, tt)))))))))));
-    line = λ r. refl; paragraph = λ r. refl; narrow = λ r. refl; medium = λ r. refl; ideographic = λ r. refl })
+  controls = (λ r. refl, (λ r. refl, (λ r. refl, (λ r. refl, (λ r. refl, tt)))));
+  space = λ r. refl;
+  nextLine = λ r. refl;
+  noBreak = λ r. refl;
+  ogham = λ r. refl;
+  wide = (λ r. refl, (λ r. refl, (λ r. refl, (λ r. refl, (λ r. refl, (λ r. refl, (λ r. refl, (λ r. refl, (λ r. refl, (λ r. refl, (λ r. refl, tt)))))))))));
+  line = λ r. refl;
+  paragraph = λ r. refl;
+  narrow = λ r. refl;
+  medium = λ r. refl;
+  ideographic = λ r. refl;
+})
 
 -- a character of white space that some bytes begin with
 record Char (s : List ℕ) (n : ℕ) : Type 0 where
@@ -95,10 +103,12 @@ char-1 s h = go (getD s 0 0) refl h
   where
     Good : ℕ → Type 0
     Good a = (encode a ≡ a ∷ []) × (white a ≡ true) × (0 < a)
+
     good : (a : ℕ) → isWhite1 a ≡ true → Good a
     good a w = ⊎-elim
-      (λ q. let u = and-parts (leb 9 a) (leb a 13) q in among Good 9 5 a (leb-true 9 a (u .0)) (omega (arith, leb-true a 13 (u .1))) ((refl, refl, omega arith), ((refl, refl, omega arith), ((refl, refl, omega arith), ((refl, refl, omega arith), ((refl, refl, omega arith), tt))))))
-      (λ q. subst Good (sym (eqb-true a 32 q)) (refl, refl, omega arith)) (or-cases (leb 9 a && leb a 13) (eqb a 32) w)
+        (λ q. let u = and-parts (leb 9 a) (leb a 13) q in among Good 9 5 a (leb-true 9 a (u .0)) (omega (arith, leb-true a 13 (u .1))) ((refl, refl, omega arith), ((refl, refl, omega arith), ((refl, refl, omega arith), ((refl, refl, omega arith), ((refl, refl, omega arith), tt))))))
+        (λ q. subst Good (sym (eqb-true a 32 q)) (refl, refl, omega arith)) (or-cases (leb 9 a && leb a 13) (eqb a 32) w)
+
     go : (a : ℕ) → getD s 0 0 ≡ a → isWhite1 a ≡ true → Char s 1
     go a e w = let g = good a w in record { code = a; is = g .1; size = ap length (sym (g .0)); bytes = one-byte s a e (g .2) ∙ ap (λ x. x ++ drop 1 s) (sym (g .0)) }
 
@@ -108,9 +118,9 @@ char-2 s h =
     let w = and-parts (eqb (getD s 0 0) 194) (eqb (getD s 1 0) 133 || eqb (getD s 1 0) 160) h in
     let a = eqb-true (getD s 0 0) 194 (w .0) in
     ⊎-elim
-      (λ q. record { code = 133; is = refl; size = refl; bytes = two-bytes s 194 133 a (omega arith) (eqb-true (getD s 1 0) 133 q) (omega arith) })
-      (λ q. record { code = 160; is = refl; size = refl; bytes = two-bytes s 194 160 a (omega arith) (eqb-true (getD s 1 0) 160 q) (omega arith) })
-      (or-cases (eqb (getD s 1 0) 133) (eqb (getD s 1 0) 160) (w .1))
+    (λ q. record { code = 133; is = refl; size = refl; bytes = two-bytes s 194 133 a (omega arith) (eqb-true (getD s 1 0) 133 q) (omega arith) })
+    (λ q. record { code = 160; is = refl; size = refl; bytes = two-bytes s 194 160 a (omega arith) (eqb-true (getD s 1 0) 160 q) (omega arith) })
+    (or-cases (eqb (getD s 1 0) 133) (eqb (getD s 1 0) 160) (w .1))
 
 spread-code : (c : ℕ) → isSpread c ≡ true → (encode (8064 + c) ≡ 226 ∷ 128 ∷ c ∷ []) × (white (8064 + c) ≡ true) × (0 < c)
 unfolding encode
@@ -118,9 +128,11 @@ spread-code c h = many h
   where
     P : ℕ → Type 0
     P c = (encode (8064 + c) ≡ 226 ∷ 128 ∷ c ∷ []) × (white (8064 + c) ≡ true) × (0 < c)
+
     low : (leb 128 c && leb c 138) ≡ true → P c
     low q = let w = and-parts (leb 128 c) (leb c 138) q in among P 128 11 c (leb-true 128 c (w .0)) (omega (arith, leb-true c 138 (w .1)))
         ((refl, refl, omega arith), ((refl, refl, omega arith), ((refl, refl, omega arith), ((refl, refl, omega arith), ((refl, refl, omega arith), ((refl, refl, omega arith), ((refl, refl, omega arith), ((refl, refl, omega arith), ((refl, refl, omega arith), ((refl, refl, omega arith), ((refl, refl, omega arith), tt)))))))))))
+
     many : isSpread c ≡ true → P c
     many = one-more P c 175 _ (refl, refl, omega arith) (one-more P c 169 _ (refl, refl, omega arith) (one-more P c 168 _ (refl, refl, omega arith) low))
 
@@ -130,33 +142,42 @@ char-3 s h = top h
   where
     a : ℕ
     a = getD s 0 0
+
     b : ℕ
     b = getD s 1 0
+
     c : ℕ
     c = getD s 2 0
+
     at : (x y z : ℕ) → a ≡ x → 0 < x → b ≡ y → 0 < y → c ≡ z → 0 < z → (code : ℕ) → white code ≡ true → encode code ≡ x ∷ y ∷ z ∷ [] → Char s 3
     at x y z e h f k g l code w q = record { code = code; is = w; size = ap length (sym q); bytes = three-bytes s x y z e h f k g l ∙ ap (λ r. r ++ drop 3 s) (sym q) }
+
     spread : eqb a 226 ≡ true → (eqb b 128 && isSpread c) ≡ true → Char s 3
     spread e q =
         let w = and-parts (eqb b 128) (isSpread c) q in
         let r = spread-code c (w .1) in
         at 226 128 c (eqb-true a 226 e) (omega arith) (eqb-true b 128 (w .0)) (omega arith) refl (r .2) (8064 + c) (r .1) (r .0)
+
     medium : eqb a 226 ≡ true → (eqb b 129 && eqb c 159) ≡ true → Char s 3
     medium e q =
         let w = and-parts (eqb b 129) (eqb c 159) q in
         at 226 129 159 (eqb-true a 226 e) (omega arith) (eqb-true b 129 (w .0)) (omega arith) (eqb-true c 159 (w .1)) (omega arith) 8287 refl refl
+
     second : (eqb a 226 && ((eqb b 128 && isSpread c) || (eqb b 129 && eqb c 159))) ≡ true → Char s 3
     second q =
         let w = and-parts (eqb a 226) ((eqb b 128 && isSpread c) || (eqb b 129 && eqb c 159)) q in
         ⊎-elim (spread (w .0)) (medium (w .0)) (or-cases (eqb b 128 && isSpread c) (eqb b 129 && eqb c 159) (w .1))
+
     triple : (x y z : ℕ) → 0 < x → 0 < y → 0 < z → (code : ℕ) → white code ≡ true → encode code ≡ x ∷ y ∷ z ∷ [] → (eqb a x && (eqb b y && eqb c z)) ≡ true → Char s 3
     triple x y z h k l code w q m =
         let u = and-parts (eqb a x) (eqb b y && eqb c z) m in
         let v = and-parts (eqb b y) (eqb c z) (u .1) in
         at x y z (eqb-true a x (u .0)) h (eqb-true b y (v .0)) k (eqb-true c z (v .1)) l code w q
+
     rest : ((eqb a 226 && ((eqb b 128 && isSpread c) || (eqb b 129 && eqb c 159))) || (eqb a 227 && (eqb b 128 && eqb c 128))) ≡ true → Char s 3
     rest q = ⊎-elim second (triple 227 128 128 (omega arith) (omega arith) (omega arith) 12288 refl refl)
         (or-cases (eqb a 226 && ((eqb b 128 && isSpread c) || (eqb b 129 && eqb c 159))) (eqb a 227 && (eqb b 128 && eqb c 128)) q)
+
     top : isWhite3 a b c ≡ true → Char s 3
     top q = ⊎-elim (triple 225 154 128 (omega arith) (omega arith) (omega arith) 5760 refl refl) rest
         (or-cases (eqb a 225 && (eqb b 154 && eqb c 128)) ((eqb a 226 && ((eqb b 128 && isSpread c) || (eqb b 129 && eqb c 159))) || (eqb a 227 && (eqb b 128 && eqb c 128))) q)
@@ -167,18 +188,24 @@ whites-of s = one (isWhite1 (getD s 0 0)) refl
   where
     a : ℕ
     a = getD s 0 0
+
     b : ℕ
     b = getD s 1 0
+
     c : ℕ
     c = getD s 2 0
+
     Known : ℕ → Type 0
     Known n = (n ≡ 0) ⊎ Char s n
+
     three : (x : Bool) → isWhite3 a b c ≡ x → Known (cond x 3 0)
     three true e = inr (char-3 s e)
     three false e = inl refl
+
     two : (x : Bool) → isWhite2 a b ≡ x → Known (cond x 2 (cond (isWhite3 a b c) 3 0))
     two true e = inr (char-2 s e)
     two false e = three (isWhite3 a b c) refl
+
     one : (x : Bool) → isWhite1 a ≡ x → Known (cond x 1 (cond (isWhite2 a b) 2 (cond (isWhite3 a b c) 3 0)))
     one true e = inr (char-1 s e)
     one false e = two (isWhite2 a b) refl
@@ -201,10 +228,11 @@ white-more c s e w = (c ∷ w .0, ap (λ r. encode c ++ r) (w .1), (ap not e, w 
 
 char-run : (t : List ℕ) (p n q : ℕ) → Char (drop p t) n → WhiteRun t (p + n) q → WhiteRun t p q
 char-run t p n q c r = record {
-    bytes = encode (c .code) ++ r .bytes;
-    white = white-more (c .code) (r .bytes) (c .is) (r .white);
-    split = c .bytes ∙ ap (λ x. encode (c .code) ++ x) (drop-drop n p t ∙ r .split) ∙ sym (append-assoc (encode (c .code)) (r .bytes) (drop q t));
-    size = omega (arith, r .size, c .size, length-append (encode (c .code)) (r .bytes)) }
+  bytes = encode (c .code) ++ r .bytes;
+  white = white-more (c .code) (r .bytes) (c .is) (r .white);
+  split = c .bytes ∙ ap (λ x. encode (c .code) ++ x) (drop-drop n p t ∙ r .split) ∙ sym (append-assoc (encode (c .code)) (r .bytes) (drop q t));
+  size = omega (arith, r .size, c .size, length-append (encode (c .code)) (r .bytes));
+}
 
 pub whites-run : (t : List ℕ) (f p : ℕ) → WhiteRun t p (whitesAt t f p)
 unfolding whitesAt
@@ -215,9 +243,9 @@ whites-run t (suc f) p = go (whiteAt t p) refl (whites-run t f (p + whiteAt t p)
     go zero e r = none-run t p
     go (suc n) e r =
         ⊎-elim (λ z. absurd (let y = white-on t p in omega arith))
-          (λ (c : Char (drop p t) (whiteOf (getD (drop p t) 0 0) (getD (drop p t) 1 0) (getD (drop p t) 2 0))).
-            rw (ne-eqb (suc n) 0 (λ z. omega arith)) (char-run t p (suc n) (whitesAt t f (p + suc n)) (subst (Char (drop p t)) (sym (white-on t p) ∙ e) c) r))
-          (whites-of (drop p t))
+        (λ (c : Char (drop p t) (whiteOf (getD (drop p t) 0 0) (getD (drop p t) 1 0) (getD (drop p t) 2 0))).
+        rw (ne-eqb (suc n) 0 (λ z. omega arith)) (char-run t p (suc n) (whitesAt t f (p + suc n)) (subst (Char (drop p t)) (sym (white-on t p) ∙ e) c) r))
+        (whites-of (drop p t))
 
 -- all of it is passed over
 pub whites-end : (cs : List ℕ) (t : List ℕ) (f p : ℕ) (rest : List ℕ) → fails dark cs → drop p t ≡ encodes cs ++ rest →
@@ -266,12 +294,14 @@ platform-sound b h e = first (saysWord b (codes "host") (whiteEnd b 0)) refl e
   where
     run : WhiteRun b 0 (whiteEnd b 0)
     run = whites-run b (length b) 0
+
     second : (x : Bool) → saysWord b (codes "target") (whiteEnd b 0) ≡ x → cond x (Some Target) None ≡ Some h → PlatformName h b
     second true s q =
         let w = says-sound b (codes "target") (whiteEnd b 0) run s in
         let same : Target ≡ h = cc in
         subst (λ k. PlatformName k b) same (subst (PlatformName Target) (sym (w .4)) (PlatformName.target (w .2) (w .3)))
     second false s q = absurd (let z : _≡_ {A = ℕ} 0 1 = cc in omega arith)
+
     first : (x : Bool) → saysWord b (codes "host") (whiteEnd b 0) ≡ x → cond x (Some Host) (cond (saysWord b (codes "target") (whiteEnd b 0)) (Some Target) None) ≡ Some h → PlatformName h b
     first true s q =
         let w = says-sound b (codes "host") (whiteEnd b 0) run s in
@@ -295,7 +325,8 @@ around v w u x y n =
     record {
       front = whites-end (x .0) b (length b) 0 (w ++ u) (x .2) (ap (λ r. r ++ (w ++ u)) (sym (x .1))) n (omega (arith, ap length (x .1))) ∙ zero-add (length (encodes (x .0))) ∙ ap length (x .1);
       rest = rest;
-      back = whites-end (y .0) b (length b) (length v + length w) [] (y .2) (after ∙ sym (y .1) ∙ sym (append-nil (encodes (y .0)))) refl (omega (arith, ap length (y .1))) ∙ omega (arith, ap length (y .1)) }
+      back = whites-end (y .0) b (length b) (length v + length w) [] (y .2) (after ∙ sym (y .1) ∙ sym (append-nil (encodes (y .0)))) refl (omega (arith, ap length (y .1))) ∙ omega (arith, ap length (y .1));
+    }
 
 begins-at : (v w u x : List ℕ) (p : ℕ) → drop p (v ++ (w ++ u)) ≡ w ++ u → (r : Bool) → prefixOf x (w ++ u) ≡ r → beginsAt (v ++ (w ++ u)) p x ≡ r
 begins-at v w u x p e r h = begins-prefix (v ++ (w ++ u)) p x ∙ ap (prefixOf x) e ∙ h
@@ -305,15 +336,15 @@ unfolding platformOf
 platform-whole b h (PlatformName.host {v} {w} x y) =
     let a = around v (codes "host") w x y refl in
     let s : saysWord (v ++ (codes "host" ++ w)) (codes "host") (length v) ≡ true =
-        and-from (beginsAt (v ++ (codes "host" ++ w)) (length v) (codes "host")) (eqb (whiteEnd (v ++ (codes "host" ++ w)) (length v + 4)) (length (v ++ (codes "host" ++ w))))
-          (begins-at v (codes "host") w (codes "host") (length v) (a .rest) true refl) (eq-eqb _ _ (a .back)) in
+    and-from (beginsAt (v ++ (codes "host" ++ w)) (length v) (codes "host")) (eqb (whiteEnd (v ++ (codes "host" ++ w)) (length v + 4)) (length (v ++ (codes "host" ++ w))))
+    (begins-at v (codes "host") w (codes "host") (length v) (a .rest) true refl) (eq-eqb _ _ (a .back)) in
     rw (a .front, s)
 platform-whole b h (PlatformName.target {v} {w} x y) =
     let a = around v (codes "target") w x y refl in
     let s : saysWord (v ++ (codes "target" ++ w)) (codes "target") (length v) ≡ true =
-        and-from (beginsAt (v ++ (codes "target" ++ w)) (length v) (codes "target")) (eqb (whiteEnd (v ++ (codes "target" ++ w)) (length v + 6)) (length (v ++ (codes "target" ++ w))))
-          (begins-at v (codes "target") w (codes "target") (length v) (a .rest) true refl) (eq-eqb _ _ (a .back)) in
+    and-from (beginsAt (v ++ (codes "target" ++ w)) (length v) (codes "target")) (eqb (whiteEnd (v ++ (codes "target" ++ w)) (length v + 6)) (length (v ++ (codes "target" ++ w))))
+    (begins-at v (codes "target") w (codes "target") (length v) (a .rest) true refl) (eq-eqb _ _ (a .back)) in
     let n : saysWord (v ++ (codes "target" ++ w)) (codes "host") (length v) ≡ false =
-        and-left (beginsAt (v ++ (codes "target" ++ w)) (length v) (codes "host")) (eqb (whiteEnd (v ++ (codes "target" ++ w)) (length v + 4)) (length (v ++ (codes "target" ++ w))))
-          (begins-at v (codes "target") w (codes "host") (length v) (a .rest) false refl) in
+    and-left (beginsAt (v ++ (codes "target" ++ w)) (length v) (codes "host")) (eqb (whiteEnd (v ++ (codes "target" ++ w)) (length v + 4)) (length (v ++ (codes "target" ++ w))))
+    (begins-at v (codes "target") w (codes "host") (length v) (a .rest) false refl) in
     rw (a .front, n, s)

@@ -72,8 +72,8 @@ sign-some t a l m o w h e f =
     let r4 : Reads a3 (done (Some o) a3) m 0 (Some o) = record { value = refl; quiet = refl; pos = r2 .pos ∙ to; parts = sym (add-zero (a3 .parts)) } in
     let r3 : Reads a2 (faultOf None p n a2) m 0 tt = record { value = refl; quiet = refl; pos = r2 .pos ∙ to; parts = sym (add-zero (a2 .parts)) } in
     reads-then (moved (p + n)) (λ _. part p ⨾ (λ _. faultOf None p n ⨾ (λ _. done (Some o)))) a (p + n) m 0 1 tt (Some o) r1
-      (reads-then (part p) (λ _. faultOf None p n ⨾ (λ _. done (Some o))) a1 (a1 .pos) m 1 0 tt (Some o) r2
-        (reads-then (faultOf None p n) (λ _. done (Some o)) a2 m m 0 0 tt (Some o) r3 r4))
+    (reads-then (part p) (λ _. faultOf None p n ⨾ (λ _. done (Some o))) a1 (a1 .pos) m 1 0 tt (Some o) r2
+    (reads-then (faultOf None p n) (λ _. done (Some o)) a2 m m 0 0 tt (Some o) r3 r4))
 
 or-some : (t : List ℕ) (a : At) (l m : ℕ) (w : List ℕ) → a .parts < 128 → Blanks t (a .pos) l → NoBlank t l → Stands t w l m → orSignOn (w ++ drop m t) ≡ signs Union w → Reads a (orSign t a) m 1 (Some Union)
 unfolding orSign
@@ -110,8 +110,13 @@ module _ (t : List ℕ) (sign : At → Out (Option Operator)) (one : At → Out 
   come-first : (a : At) (k c : ℕ) (y : Tree Called) → Reads a (one a) k c y → Come a k c y
   unfolding chainAt
   come-first a k c y r = record {
-      fuel = length t; enough = omega arith; at = after a (one a); pos = r .pos; parts = r .parts;
-      on = λ j m z q. reads-then one (joinedAt sign one (length t)) a k j c m y z r q }
+    fuel = length t;
+    enough = omega arith;
+    at = after a (one a);
+    pos = r .pos;
+    parts = r .parts;
+    on = λ j m z q. reads-then one (joinedAt sign one (length t)) a k j c m y z r q;
+  }
 
   come-more : (a : At) (k c l j d : ℕ) (o : Operator) (y z : Tree Called) (w : Come a k c y) → k < j → j ≤ length t →
       Reads (w .at) (sign (w .at)) l 1 (Some o) → Reads (after (w .at) (sign (w .at))) (one (after (w .at) (sign (w .at)))) j d z → Come a j (c + (1 + d)) (Tree.joined o y z)
@@ -120,21 +125,24 @@ module _ (t : List ℕ) (sign : At → Out (Option Operator)) (one : At → Out 
     where
       b1 : At
       b1 = after (w .at) (sign (w .at))
+
       b2 : At
       b2 = after b1 (one b1)
+
       go : (f : ℕ) → w .fuel ≡ f → Come a j (c + (1 + d)) (Tree.joined o y z)
       go zero e = absurd (omega (arith, w .enough, e))
       go (suc g) e = record {
-          fuel = g;
-          enough = omega (arith, w .enough, e);
-          at = b2;
-          pos = r .pos;
-          parts = omega (arith, r .parts, s .parts, w .parts);
-          on = λ i m x q.
+        fuel = g;
+        enough = omega (arith, w .enough, e);
+        at = b2;
+        pos = r .pos;
+        parts = omega (arith, r .parts, s .parts, w .parts);
+        on = λ i m x q.
             let q1 = reads-then one (λ v. joinedAt sign one g (Tree.joined o y v)) b1 j i d m z x r q in
             let q2 = reads-then sign (onward y (λ p. one ⨾ (λ v. joinedAt sign one g (Tree.joined p y v)))) (w .at) l i 1 (d + m) (Some o) x s q1 in
             let q3 : Reads (w .at) (joinedAt sign one (w .fuel) y (w .at)) i (1 + (d + m)) x = subst (λ f. Reads (w .at) (joinedAt sign one f y (w .at)) i (1 + (d + m)) x) (sym e) q2 in
-            reads-as (let n : c + (1 + (d + m)) ≡ c + (1 + d) + m = omega arith in n) (w .on i (1 + (d + m)) x q3) }
+            reads-as (let n : c + (1 + (d + m)) ≡ c + (1 + d) + m = omega arith in n) (w .on i (1 + (d + m)) x q3);
+      }
 
   come-last : (a : At) (k c : ℕ) (y : Tree Called) (w : Come a k c y) → Reads (w .at) (sign (w .at)) (w .at .pos) 0 None → Reads a (chainAt t sign one a) k c y
   unfolding joinedAt
@@ -142,6 +150,7 @@ module _ (t : List ℕ) (sign : At → Out (Option Operator)) (one : At → Out 
     where
       b : At
       b = after (w .at) (sign (w .at))
+
       go : (f : ℕ) → Reads (w .at) (joinedAt sign one f y (w .at)) k 0 y
       go zero = record { value = refl; quiet = refl; pos = w .pos; parts = sym (add-zero (w .at .parts)) }
       go (suc g) = reads-then sign (onward y (λ p. one ⨾ (λ v. joinedAt sign one g (Tree.joined p y v)))) (w .at) (w .at .pos) k 0 0 None y s
@@ -199,21 +208,22 @@ set-one t under a k l j s w x bl fr room st e rd =
     record {
       tree = Tree.set (r .leaf);
       reads = opened t under a k l j 1 w (lead.Set s) (Tree.set (r .leaf)) bl fr st e (parted a k q j 0 (setAt t k s) (Tree.set (r .leaf)) room (r .reads));
-      same = ap Tree.set (r .same) }
+      same = ap Tree.set (r .same);
+    }
 
 nullary-one : (t : List ℕ) (under : ℕ → Under) (a : At) (k j : ℕ) (n : Nullary) (leaf : Leaf Called) → Blanks t (a .pos) k → a .parts < 128 → Nothing t (nullaryName n) k j → nullaryLeaf n (between k j) ≡ Tree.set leaf →
     OneRead (operandAt t under) a j (Tree.set (bytesLeaf leaf))
 nullary-one t under a k j n leaf bl room r is =
     set-one t under a k (r .named) j (sets.Nullary n) (nullaryName n) (bytesLeaf leaf) bl (nullary-free t n k (r .named) (r .name)) room (r .name) (nullary-opening n (drop (r .named) t))
-      (λ b e. record { leaf = leaf; reads = nullary-whole t n k b j r (sym e) leaf is; same = refl })
+    (λ b e. record { leaf = leaf; reads = nullary-whole t n k b j r (sym e) leaf is; same = refl })
 
 set-whole : (t : List ℕ) (under : ℕ → Under) (a : At) (k j : ℕ) (x : Leaf (List ℕ)) → Blanks t (a .pos) k → a .parts < 128 → Set t k j x → fineLeaf x → OneRead (operandAt t under) a j (Tree.set x)
 set-whole t under a k j x bl room (Set.matched {p} {m} {b} {k = l} {l = f} {n} st o arg cl) fine =
     set-one t under a k l j (sets.Matched p) (nameOf p) (Leaf.matched p m b (between f n)) bl (name-free t p k l st) room st (set-opening p (drop l t) (open-byte t l f o))
-      (λ c e. unary-whole t p c f n j m b (subst (λ i. Open t i f) (sym e) o) arg cl fine)
+    (λ c e. unary-whole t p c f n j m b (subst (λ i. Open t i f) (sym e) o) arg cl fine)
 set-whole t under a k j x bl room (Set.platform {h} {b} {k = l} {l = f} {m} {n} st o bl2 fr s name cl) fine =
     set-one t under a k l j sets.Platform (codes "platform") (Leaf.platform h (between f n)) bl (free t 112 _ k l (omega arith) st) room st (platform-opening (drop l t))
-      (λ c e. platform-set-whole t c f m n j h b (subst (λ i. Open t i f) (sym e) o) bl2 fr s name cl)
+    (λ c e. platform-set-whole t c f m n j h b (subst (λ i. Open t i f) (sym e) o) bl2 fr s name cl)
 set-whole t under a k j x bl room (Set.default r) fine = nullary-one t under a k j nullary.Default (Leaf.default (between k j)) bl room r refl
 set-whole t under a k j x bl room (Set.all r) fine = nullary-one t under a k j nullary.All Leaf.all bl room r refl
 set-whole t under a k j x bl room (Set.none r) fine = nullary-one t under a k j nullary.None Leaf.none bl room r refl
@@ -230,10 +240,11 @@ many-first t sign one a j x r = record { tree = r .tree; come = come-first t sig
 many-more : (t : List ℕ) (sign : At → Out (Option Operator)) (one : At → Out (Tree Called)) (a : At) (k l j : ℕ) (o : Operator) (x y : Tree (List ℕ)) (w : ManyRead t sign one a k x) → k < j → j ≤ length t →
     Reads (w .come .at) (sign (w .come .at)) l 1 (Some o) → OneRead one (after (w .come .at) (sign (w .come .at))) j y → ManyRead t sign one a j (Tree.joined o x y)
 many-more t sign one a k l j o x y w lt le s r = record {
-    tree = Tree.joined o (w .tree) (r .tree);
-    come = subst (λ c. Come t sign one a j c (Tree.joined o (w .tree) (r .tree))) (let n : parts x + (1 + parts y) ≡ parts x + (parts y + 1) = omega arith in n)
-        (come-more t sign one a k (parts x) l j (parts y) o (w .tree) (r .tree) (w .come) lt le s (r .reads));
-    same = ap (λ v. Tree.joined o v (bytesTree (r .tree))) (w .same) ∙ ap (Tree.joined o x) (r .same) }
+  tree = Tree.joined o (w .tree) (r .tree);
+  come = subst (λ c. Come t sign one a j c (Tree.joined o (w .tree) (r .tree))) (let n : parts x + (1 + parts y) ≡ parts x + (parts y + 1) = omega arith in n)
+      (come-more t sign one a k (parts x) l j (parts y) o (w .tree) (r .tree) (w .come) lt le s (r .reads));
+  same = ap (λ v. Tree.joined o v (bytesTree (r .tree))) (w .same) ∙ ap (Tree.joined o x) (r .same);
+}
 
 many-last : (t : List ℕ) (sign : At → Out (Option Operator)) (one : At → Out (Tree Called)) (a : At) (j : ℕ) (x : Tree (List ℕ)) (w : ManyRead t sign one a j x) → Reads (w .come .at) (sign (w .come .at)) (w .come .at .pos) 0 None →
     OneRead (chainAt t sign one) a j x
@@ -250,7 +261,8 @@ close-none t j k l bl st =
     let d = stands-rest t (codes ")") k l st in
     record {
       and = ap (andSignAt t) q ∙ and-sign-on t k ∙ ap andSignOn d ∙ close-no-sign (drop l t) .0;
-      or = ap (orSignAt t) q ∙ or-sign-on t k ∙ ap orSignOn d ∙ close-no-sign (drop l t) .1 }
+      or = ap (orSignAt t) q ∙ or-sign-on t k ∙ ap orSignOn d ∙ close-no-sign (drop l t) .1;
+    }
 
 end-free : (t : List ℕ) → NoBlank t (length t)
 end-free t = no-blank t (length t) 0 (getD-past t (length t) 0 (omega arith)) (λ e. omega arith) (λ e. omega arith) (λ e. omega arith)
@@ -261,7 +273,8 @@ end-none t j bl =
     let d = drop-all (length t) t (omega arith) in
     record {
       and = ap (andSignAt t) q ∙ and-sign-on t (length t) ∙ ap andSignOn d ∙ end-no-sign .0;
-      or = ap (orSignAt t) q ∙ or-sign-on t (length t) ∙ ap orSignOn d ∙ end-no-sign .1 }
+      or = ap (orSignAt t) q ∙ or-sign-on t (length t) ∙ ap orSignOn d ∙ end-no-sign .1;
+    }
 
 -- an or-sign is no and-sign
 pub or-not-and : (t : List ℕ) (j l m : ℕ) → Blanks t j l → OrSign t l m → andSignAt t (skip t j) ≡ None
@@ -298,8 +311,9 @@ not-one t n a k l j w x bl fr room st e rd =
     record {
       tree = y;
       reads = reads-as (let m : 1 + (parts x + 0) ≡ parts x + 1 = omega arith in m)
-        (opened t (within t (basicAt t n)) a k l j (1 + (parts x + 0)) w lead.Not y bl fr st e (parted a k q j (parts x + 0) (basicAt t n ⨾ (λ v. done (Tree.negated v))) y room r2));
-      same = ap Tree.negated (r .same) }
+          (opened t (within t (basicAt t n)) a k l j (1 + (parts x + 0)) w lead.Not y bl fr st e (parted a k q j (parts x + 0) (basicAt t n ⨾ (λ v. done (Tree.negated v))) y room r2));
+      same = ap Tree.negated (r .same);
+    }
 
 group-one : (t : List ℕ) (n : ℕ) (a : At) (k l e m j : ℕ) (x : Tree (List ℕ)) → Blanks t (a .pos) k → a .parts < 128 → Stands t (codes "(") k l → Blanks t e m → Stands t (codes ")") m j →
     ((b : At) → b .pos ≡ l → b .parts ≡ a .parts + 1 → OneRead (orAt t n) b e x) → OneRead (basicAt t (suc n)) a j (Tree.group x)
@@ -318,8 +332,9 @@ group-one t n a k l e m j x bl room st bl2 cl rd =
     record {
       tree = y;
       reads = reads-as (let i : 1 + (parts x + 0) ≡ parts x + 1 = omega arith in i)
-        (opened t (within t (basicAt t n)) a k l j (1 + (parts x + 0)) (codes "(") lead.Group y bl (free t 40 [] k l (omega arith) st) st (group-opening (drop l t)) (parted a k q j (parts x + 0) (orAt t n ⨾ (λ v. closeAt t ⨾ (λ _. done (Tree.group v)))) y room r4));
-      same = ap Tree.group (r .same) }
+          (opened t (within t (basicAt t n)) a k l j (1 + (parts x + 0)) (codes "(") lead.Group y bl (free t 40 [] k l (omega arith) st) st (group-opening (drop l t)) (parted a k q j (parts x + 0) (orAt t n ⨾ (λ v. closeAt t ⨾ (λ _. done (Tree.group v)))) y room r4));
+      same = ap Tree.group (r .same);
+    }
 
 operand-basic : (t : List ℕ) (a : At) (j : ℕ) (x : Tree (List ℕ)) → ((under : ℕ → Under) → OneRead (operandAt t under) a j x) → (n : ℕ) → OneRead (basicAt t n) a j x
 unfolding basicAt
@@ -343,8 +358,8 @@ mutual
   basic-whole t (Basic.group {i} {k} {l} {m} {j} {x} o r bl cl) (suc n) a e h deep few fine =
       let w = open-to t i k o h in
       group-one t n a (o .start) k l m j x (subst (λ p. Blanks t p (o .start)) (sym e) (o .blanks)) (omega arith) (o .bracket) bl cl
-        (λ c q p. let g = or-whole t r n c q (w .within) (omega arith) (omega arith) fine (close-none t l m j bl cl .and) in
-          many-last t (orSign t) (andAt t n) c l x g (or-none t (g .come .at) (ap (λ v. orSignAt t (skip t v)) (g .come .pos) ∙ close-none t l m j bl cl .or)))
+      (λ c q p. let g = or-whole t r n c q (w .within) (omega arith) (omega arith) fine (close-none t l m j bl cl .and) in
+      many-last t (orSign t) (andAt t n) c l x g (or-none t (g .come .at) (ap (λ v. orSignAt t (skip t v)) (g .come .pos) ∙ close-none t l m j bl cl .or)))
 
   and-whole : (t : List ℕ) {i j : ℕ} {x : Tree (List ℕ)} → AndExpr t i j x → (n : ℕ) (a : At) → a .pos ≡ i → i ≤ length t → nests x ≤ n → a .parts + parts x ≤ 128 → globsFine x → ManyRead t (andSign t) (basicAt t n) a j x
   and-whole t (AndExpr.basic {i} {j} {x} b) n a e h deep few fine = many-first t (andSign t) (basicAt t n) a j x (basic-whole t b n a e h deep few fine)
@@ -353,7 +368,7 @@ mutual
       let on1 = and-to t r h in let on2 = blanks-on t bl (on1 .within) in let on3 = and-sign-to t l m o s in let on4 = basic-to t b (on3 .within) in
       let sg = and-read t (w .come .at) l m o (omega (arith, w .come .parts)) (subst (λ p. Blanks t p l) (sym (w .come .pos)) bl) s (basic-apart t b) in
       many-more t (andSign t) (basicAt t n) a k m j o x y w (omega (arith, on2 .0, on3 .less, on4 .less)) (on4 .within) sg
-        (basic-whole t b n (after (w .come .at) (andSign t (w .come .at))) (sg .pos) (on3 .within) (omega arith) (omega (arith, sg .parts, w .come .parts)) (fine .1))
+      (basic-whole t b n (after (w .come .at) (andSign t (w .come .at))) (sg .pos) (on3 .within) (omega arith) (omega (arith, sg .parts, w .come .parts)) (fine .1))
 
   or-whole : (t : List ℕ) {i j : ℕ} {x : Tree (List ℕ)} → OrExpr t i j x → (n : ℕ) (a : At) → a .pos ≡ i → i ≤ length t → nests x ≤ n → a .parts + parts x ≤ 128 → globsFine x → andSignAt t (skip t j) ≡ None → ManyRead t (orSign t) (andAt t n) a j x
   or-whole t (OrExpr.andExpr {i} {j} {x} r) n a e h deep few fine end =
@@ -366,7 +381,7 @@ mutual
       let c = after (w .come .at) (orSign t (w .come .at)) in
       let v = and-whole t f n c (sg .pos) (on3 .within) (omega arith) (omega (arith, sg .parts, w .come .parts)) (fine .1) in
       many-more t (orSign t) (andAt t n) a k m j Union x y w (omega (arith, on2 .0, on3 .less, on4 .less)) (on4 .within) sg
-        (many-last t (andSign t) (basicAt t n) c j y v (and-none t (v .come .at) (ap (λ z. andSignAt t (skip t z)) (v .come .pos) ∙ end)))
+      (many-last t (andSign t) (basicAt t n) c j y v (and-none t (v .come .at) (ap (λ z. andSignAt t (skip t z)) (v .come .pos) ∙ end)))
 
 end-whole : (t : List ℕ) (a : At) → Blanks t (a .pos) (length t) → Reads a (endAt t a) (length t) 0 tt
 end-whole t a bl =

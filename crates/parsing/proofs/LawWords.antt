@@ -31,6 +31,7 @@ begins-prefix t p (b ∷ w) = ⊎-elim (inside (begins-prefix t (p + 1) w)) outs
   where
     inside : beginsAt t (p + 1) w ≡ prefixOf w (drop (p + 1) t) → p < length t → beginsAt t p (b ∷ w) ≡ prefixOf (b ∷ w) (drop p t)
     inside ih h = rw (lt-ltb p (length t) h, drop-more t p 0 h) (ap (λ v. eqb (getD t p 0) b && v) ih)
+
     outside : length t ≤ p → beginsAt t p (b ∷ w) ≡ prefixOf (b ∷ w) (drop p t)
     outside h = rw (le-ltb p (length t) h, drop-all p t h)
 

@@ -64,7 +64,7 @@ module _ {X Y : Type 0} {g : X → Y} (f : At → Out X) where
       subst (λ (o : Out Z). Ran h s o e r) (sym (goes f k (s .at) x v))
       (record {
         state = b .state ∙ ap (λ (z : St). grow z (k x (z .at))) (a .state) ∙ sym (grow-both s (f (s .at)) (k x (after (s .at) (f (s .at)))));
-        result = b .result ∙ ap (λ (z : St). mapOk h (k x (z .at) .value)) (a .state)
+        result = b .result ∙ ap (λ (z : St). mapOk h (k x (z .at) .value)) (a .state);
       })
 
   -- a reading that stops is the end
@@ -95,7 +95,7 @@ got-then {X} {Z} {s} {m} {e} {x} {v} f k a b =
     subst (λ (o : Out Z). Got s o e v) (sym (goes f k (s .at) x (a .value)))
     (record {
       state = b .state ∙ ap (λ (z : St). grow z (k x (z .at))) (a .state) ∙ sym (grow-both s (f (s .at)) (k x (after (s .at) (f (s .at)))));
-      value = ap (λ (z : St). k x (z .at) .value) (sym (a .state)) ∙ b .value
+      value = ap (λ (z : St). k x (z .at) .value) (sym (a .state)) ∙ b .value;
     })
 
 pub got-stop : {X Z : Type 0} {s e : St} {x : ReadingFault} (f : At → Out X) (k : X → At → Out Z) → Got s (f (s .at)) e (Err x) → Got s ((f ⨾ k) (s .at)) e (Err x)

@@ -120,7 +120,7 @@ textAt t a =
       parts = a .parts;
       reports = names.nameAt t (a .pos) (a .used) .out .reports;
       bytes = names.nameAt t (a .pos) (a .used) .out .bytes;
-      value = Ok (called t (a .pos) (names.nameAt t (a .pos) (a .used)))
+      value = Ok (called t (a .pos) (names.nameAt t (a .pos) (a .used)));
     }
 
 -- a name that is a glob is checked; p is where it began
@@ -190,7 +190,7 @@ platformLeaf at (Some n) a = platformBy at (platformOf (n .bytes)) a
 unfoldable pub platformAt : List ℕ → At → Out (Tree Called)
 platformAt t =
     openAt t ⨾ (λ _ a.
-      (moved (skip t (a .pos)) ⨾ (λ _. textAt t ⨾ (λ n b. (closedAt t ⨾ (λ _. platformLeaf (between (a .pos) (b .pos)) n)) b))) a)
+    (moved (skip t (a .pos)) ⨾ (λ _. textAt t ⨾ (λ n b. (closedAt t ⨾ (λ _. platformLeaf (between (a .pos) (b .pos)) n)) b))) a)
 
 abbrev pub nullaryLeaf : Nullary → Place → Tree Called
 nullaryLeaf nullary.Default at = Tree.set (Leaf.default at)
@@ -284,7 +284,7 @@ deepest p = record { not = deeper p; group = deeper p }
 abbrev pub within : List ℕ → (At → Out (Tree Called)) → ℕ → Under
 within t basic p = record {
   not = basic ⨾ (λ x. done (Tree.negated x));
-  group = orWith t basic ⨾ (λ x. closeAt t ⨾ (λ _. done (Tree.group x)))
+  group = orWith t basic ⨾ (λ x. closeAt t ⨾ (λ _. done (Tree.group x)));
 }
 
 -- a basic, with so many nests left

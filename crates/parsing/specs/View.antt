@@ -42,7 +42,7 @@ view c = record {
   space = now (c .space);
   lent = name (c .table);
   held = name (c .space);
-  kept = name (c .nodes)
+  kept = name (c .nodes);
 }
 
 abbrev pub grow : {X : Type 0} → St → Out X → St
@@ -54,7 +54,7 @@ grow s o = record {
   space = sets (s .space) (s .at .used) (o .bytes);
   lent = s .lent;
   held = s .held;
-  kept = s .kept
+  kept = s .kept;
 }
 
 abbrev pub mapOk : {X Y : Type 0} → (X → Y) → Result X ReadingFault → Result Y ReadingFault

@@ -19,9 +19,6 @@ ghost use Rattle.parsing.specs.Text.{isAt, skip, closing};
 ghost use Rattle.parsing.specs.Words.{usual};
 ghost use Rattle.parsing.specs.Reading.{_⨾_, platformOf, moved, note, reportOf, part, expect, textAt, matcherAt, argumentAt, commaAt, unaryAt, platformAt, nullaryAt, nothingAt, setAt, signFor, orSign, andSign, underAt, basicAt, andAt, orAt, endAt, filterAt};
 ghost use Rattle.parsing.specs.View.{view, Reads, ReadsTree, Ran, Kept, Sound, Moved, same, nothing, nameOnly, matcherOnly, Taken, Spelt, bytesAt};
-
-use expression::queries::BuildPlatform;
-use expression::name_matcher::MatchKind;
 use crate::nodes::NameMatcher;
 use crate::nodes::Operator;
 use crate::nodes::ParsedLeaf;
@@ -43,6 +40,8 @@ use crate::words::or_sign_at;
 use errors::faults::ReadingFault;
 use errors::reports::Report;
 use errors::reports::ReportKind;
+use expression::name_matcher::MatchKind;
+use expression::queries::BuildPlatform;
 use glob::place::Place;
 use glob::well_formed;
 use std::mem::replace;
@@ -103,7 +102,12 @@ impl Predicate {
         match self {
             Predicate::Kind => MatchKind::Equal,
             Predicate::Test => MatchKind::Contains,
-            Predicate::Package | Predicate::Deps | Predicate::Rdeps | Predicate::BinaryId | Predicate::Binary | Predicate::Group => MatchKind::Glob,
+            Predicate::Package
+            | Predicate::Deps
+            | Predicate::Rdeps
+            | Predicate::BinaryId
+            | Predicate::Binary
+            | Predicate::Group => MatchKind::Glob,
         }
     }
 }
@@ -117,7 +121,11 @@ impl Cursor<'_> {
     {
         self.first = self.first.or(Some(start));
         if self.count < self.table.len() {
-            self.table[self.count] = Report { kind, start, length };
+            self.table[self.count] = Report {
+                kind,
+                start,
+                length,
+            };
         }
         self.count += 1;
     }
@@ -155,7 +163,10 @@ impl Cursor<'_> {
         ensures parts { λ r. ⌜ now (self .exit) .parts ≡ cond (isOk r) (now (self .entry) .parts + 1) (now (self .entry) .parts) ⌝ }
     {
         if self.parts >= MOST_PARTS {
-            return Err(ReadingFault::Crowded { place: start, count: self.count });
+            return Err(ReadingFault::Crowded {
+                place: start,
+                count: self.count,
+            });
         }
         self.parts += 1;
         Ok(())
@@ -176,9 +187,7 @@ impl Cursor<'_> {
         let table = replace(&mut self.table, &mut []);
         let read = parse_string(self.text, start, table, count, self.space, used);
         self.table = table;
-        let Some(read) = read else {
-            unreachable()
-        };
+        let Some(read) = read else { unreachable() };
         self.pos = read.end;
         self.count = read.count;
         self.used = read.used;
@@ -219,7 +228,10 @@ impl Cursor<'_> {
     {
         self.skip_blanks();
         match mark_at(self.text, self.pos) {
-            Mark::Regex => Err(ReadingFault::Regex { place: self.pos, count: self.count }),
+            Mark::Regex => Err(ReadingFault::Regex {
+                place: self.pos,
+                count: self.count,
+            }),
             Mark::Marked(kind) => {
                 self.pos += 1;
                 Ok(self.parse_matcher(kind))
@@ -267,7 +279,11 @@ impl Cursor<'_> {
         self.recover_unexpected_comma();
         self.expect_char(b')', ReportKind::ExpectedCloseParenthesis);
         if let Some(matcher) = matcher {
-            self.nodes.push_reserved(ParsedNode::Set(ParsedLeaf::Matched(predicate, matcher, Place { start, length })));
+            self.nodes.push_reserved(ParsedNode::Set(ParsedLeaf::Matched(
+                predicate,
+                matcher,
+                Place { start, length },
+            )));
         }
         Ok(())
     }
@@ -289,7 +305,10 @@ impl Cursor<'_> {
             return;
         };
         match platform_at(self.text, self.space, name) {
-            Some(platform) => self.nodes.push_reserved(ParsedNode::Set(ParsedLeaf::Platform(platform, Place { start, length }))),
+            Some(platform) => self.nodes.push_reserved(ParsedNode::Set(ParsedLeaf::Platform(
+                platform,
+                Place { start, length },
+            ))),
             None => self.report(ReportKind::InvalidPlatformArgument, start, length),
         }
     }
@@ -320,7 +339,10 @@ impl Cursor<'_> {
         self.take_nothing();
         self.expect_char(b')', ReportKind::ExpectedCloseParenthesis);
         let leaf = match set {
-            Nullary::Default => ParsedLeaf::Default(Place { start, length: self.pos - start }),
+            Nullary::Default => ParsedLeaf::Default(Place {
+                start,
+                length: self.pos - start,
+            }),
             Nullary::All => ParsedLeaf::All,
             Nullary::None => ParsedLeaf::None,
         };
@@ -343,7 +365,11 @@ impl Cursor<'_> {
     }
 
     // Takes the sign that begins at `start`, if there is one, and counts it; a foreign one is reported.
-    fn take_sign(&mut self, start: usize, sign: Option<Sign>) -> Result<Option<Operator>, ReadingFault>
+    fn take_sign(
+        &mut self,
+        start: usize,
+        sign: Option<Sign>,
+    ) -> Result<Option<Operator>, ReadingFault>
         requires sound { ⌜ Sound 0 16 (now self) ⌝ }
         requires start { ⌜ now self .pos ≤ start ⌝ }
         requires fits { ⌜ found sign (λ s. (0 < s .length) × (start + s .length ≤ length (now (now self .text)))) ⌝ }
@@ -423,7 +449,11 @@ impl Cursor<'_> {
     {
         let start = blanks_end(self.text, self.pos);
         let Some(opening) = opening_at(self.text, start) else {
-            self.report(ReportKind::ExpectedExpr, self.pos, self.text.len() - self.pos);
+            self.report(
+                ReportKind::ExpectedExpr,
+                self.pos,
+                self.text.len() - self.pos,
+            );
             return Ok(());
         };
         self.pos = start + opening.length;
@@ -447,7 +477,10 @@ impl Cursor<'_> {
     {
         self.count_part(start)?;
         if free == 0 {
-            return Err(ReadingFault::Deep { place: start, count: self.count });
+            return Err(ReadingFault::Deep {
+                place: start,
+                count: self.count,
+            });
         }
         self.parse_basic_expr(free - 1)?;
         self.nodes.push_reserved(ParsedNode::Not);
@@ -462,7 +495,10 @@ impl Cursor<'_> {
     {
         self.count_part(start)?;
         if free == 0 {
-            return Err(ReadingFault::Deep { place: start, count: self.count });
+            return Err(ReadingFault::Deep {
+                place: start,
+                count: self.count,
+            });
         }
         self.parse_expr(free - 1)?;
         self.expect_char(b')', ReportKind::ExpectedCloseParenthesis);
@@ -478,7 +514,11 @@ impl Cursor<'_> {
     {
         let end = blanks_end(self.text, self.pos);
         if end < self.text.len() {
-            self.report(ReportKind::ExpectedEndOfExpression, self.pos, self.text.len() - self.pos);
+            self.report(
+                ReportKind::ExpectedEndOfExpression,
+                self.pos,
+                self.text.len() - self.pos,
+            );
             return;
         }
         self.pos = end;

@@ -12,7 +12,6 @@ ghost use Rattle.std.specs.declared.result.Result.the-variants.{Ok, Err};
 ghost use Rattle.parsing.specs.Nodes.{nodesOf};
 ghost use Rattle.parsing.specs.Reading.{readingOf};
 ghost use Rattle.parsing.specs.Outcome.{answerFor, answerOf, tableOf, spaceOf, nodesLeft, treeOf, verdictOf};
-
 use cursor::Cursor;
 use errors::faults::ReadingFault;
 use errors::faults::ReadingFromText;
@@ -31,7 +30,11 @@ mod words;
 const LONGEST: usize = 1024;
 
 // A reading that did not stop is faulty if it made reports, the first at `first`.
-fn verdict(outcome: Result<(), ReadingFault>, first: Option<usize>, count: usize) -> Result<(), ReadingFault>
+fn verdict(
+    outcome: Result<(), ReadingFault>,
+    first: Option<usize>,
+    count: usize,
+) -> Result<(), ReadingFault>
     ensures { λ r. ⌜ r ≡ verdictOf outcome first count ⌝ }
 {
     outcome?;
@@ -57,7 +60,17 @@ fn read(
     ensures nodes { λ r. ⌜ (r ≡ Ok tt → vec-items (now (nodes .exit)) ≡ nodesOf (treeOf (readingOf (now (text .entry)) .value))) ⌝ }
     ensures cap { λ _. ⌜ vec-cap (now (nodes .exit)) ≡ vec-cap (now (nodes .entry)) ⌝ }
 {
-    let mut cursor = Cursor { text, pos: 0, parts: 0, count: 0, first: None, table: reports, used: 0, space, nodes };
+    let mut cursor = Cursor {
+        text,
+        pos: 0,
+        parts: 0,
+        count: 0,
+        first: None,
+        table: reports,
+        used: 0,
+        space,
+        nodes,
+    };
     let outcome = cursor.parse_filter();
     verdict(outcome, cursor.first, cursor.count)
 }

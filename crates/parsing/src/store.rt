@@ -7,7 +7,6 @@ ghost use mathlib.Core.List.{[]};
 ghost use Prim.Native.Nat.{_≤_};
 ghost use Rattle.std.specs.Of.Vec.{vec-items, vec-cap};
 ghost use Rattle.std.specs.Vec.{made};
-
 use crate::nodes::ParsedNode;
 use std::alloc::AllocError;
 use std::alloc::Global;

@@ -9,9 +9,8 @@ ghost use lib.Dec.{eqb};
 ghost use lib.ListN.{length, getD};
 ghost use Rattle.parsing.specs.Text.{isBlank, skip, closing, whiteAt, whiteOf, whiteEnd};
 ghost use Rattle.parsing.specs.Reading.{platformOf, saysWord};
-
-use expression::queries::BuildPlatform;
 use crate::words::begins;
+use expression::queries::BuildPlatform;
 
 // The byte at `at`, and 0 past the end.
 fn byte_at(text: &[u8], at: usize) -> u8
@@ -82,7 +81,11 @@ fn white_at(text: &[u8], at: usize) -> usize
     ensures value { λ r. ⌜ r ≡ whiteAt (now (text .entry)) at ⌝ }
     ensures fits { λ r. ⌜ at + r ≤ length (now (text .entry)) ⌝ }
 {
-    white_of(byte_at(text, at), byte_at(text, at + 1), byte_at(text, at + 2))
+    white_of(
+        byte_at(text, at),
+        byte_at(text, at + 1),
+        byte_at(text, at + 2),
+    )
 }
 
 // The place after the white space at `from`.

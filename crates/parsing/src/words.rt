@@ -13,11 +13,10 @@ ghost use Rattle.parsing.specs.declared.words.Lead.the-variants as lead;
 ghost use Rattle.parsing.specs.declared.words.Mark.the-variants as mark;
 ghost use Rattle.parsing.specs.Text.{beginsAt, keywordAt};
 ghost use Rattle.parsing.specs.Words.{opening, firstAt, setEntries, signEntries, openingAt, orSignAt, andSignAt, markAt};
-
-use expression::name_matcher::MatchKind;
 use crate::nodes::Operator;
 use crate::nodes::Predicate;
 use errors::reports::ReportKind;
+use expression::name_matcher::MatchKind;
 use unicode_string::tables::is_word;
 
 // The sets that take no argument.
@@ -111,7 +110,10 @@ fn keyword(text: &[u8], at: usize, word: &[u8]) -> bool
 fn set_name(set: SetName, length: usize) -> Option<Opening>
     ensures { λ r. ⌜ r ≡ Some (record { lead = lead.Set set; length = length }) ⌝ }
 {
-    Some(Opening { lead: Lead::Set(set), length })
+    Some(Opening {
+        lead: Lead::Set(set),
+        length,
+    })
 }
 
 // The name of a set at `at`; none is the start of another but `binary`.
@@ -166,34 +168,64 @@ fn lead_sign_at(text: &[u8], at: usize) -> Option<Opening>
     ensures fits { λ r. ⌜ found r (λ o. (0 < o .length) × (at + o .length ≤ length (now (text .entry)))) ⌝ }
 {
     if keyword(text, at, b"not") {
-        return Some(Opening { lead: Lead::Not, length: 3 });
+        return Some(Opening {
+            lead: Lead::Not,
+            length: 3,
+        });
     }
     if begins(text, at, b"!") {
-        return Some(Opening { lead: Lead::Not, length: 1 });
+        return Some(Opening {
+            lead: Lead::Not,
+            length: 1,
+        });
     }
     if begins(text, at, b"(") {
-        return Some(Opening { lead: Lead::Group, length: 1 });
+        return Some(Opening {
+            lead: Lead::Group,
+            length: 1,
+        });
     }
     if keyword(text, at, b"and") {
-        return Some(Opening { lead: Lead::Misplaced(ReportKind::ExprFoundBinaryOp), length: 3 });
+        return Some(Opening {
+            lead: Lead::Misplaced(ReportKind::ExprFoundBinaryOp),
+            length: 3,
+        });
     }
     if keyword(text, at, b"or") {
-        return Some(Opening { lead: Lead::Misplaced(ReportKind::ExprFoundBinaryOp), length: 2 });
+        return Some(Opening {
+            lead: Lead::Misplaced(ReportKind::ExprFoundBinaryOp),
+            length: 2,
+        });
     }
     if keyword(text, at, b"AND") {
-        return Some(Opening { lead: Lead::Misplaced(ReportKind::ExprFoundBinaryOp), length: 3 });
+        return Some(Opening {
+            lead: Lead::Misplaced(ReportKind::ExprFoundBinaryOp),
+            length: 3,
+        });
     }
     if keyword(text, at, b"OR") {
-        return Some(Opening { lead: Lead::Misplaced(ReportKind::ExprFoundBinaryOp), length: 2 });
+        return Some(Opening {
+            lead: Lead::Misplaced(ReportKind::ExprFoundBinaryOp),
+            length: 2,
+        });
     }
     if begins(text, at, b"&&") {
-        return Some(Opening { lead: Lead::Misplaced(ReportKind::ExprFoundBinaryOp), length: 2 });
+        return Some(Opening {
+            lead: Lead::Misplaced(ReportKind::ExprFoundBinaryOp),
+            length: 2,
+        });
     }
     if begins(text, at, b"||") {
-        return Some(Opening { lead: Lead::Misplaced(ReportKind::ExprFoundBinaryOp), length: 2 });
+        return Some(Opening {
+            lead: Lead::Misplaced(ReportKind::ExprFoundBinaryOp),
+            length: 2,
+        });
     }
     if keyword(text, at, b"NOT") {
-        return Some(Opening { lead: Lead::Misplaced(ReportKind::ExprFoundUnaryOp), length: 3 });
+        return Some(Opening {
+            lead: Lead::Misplaced(ReportKind::ExprFoundUnaryOp),
+            length: 3,
+        });
     }
     None
 }
@@ -218,19 +250,39 @@ pub(crate) fn or_sign_at(text: &[u8], at: usize) -> Option<Sign>
 {
     let operator = Operator::Union;
     if begins(text, at, b"||") {
-        return Some(Sign { operator, fault: Some(ReportKind::InvalidOrOperator), length: 2 });
+        return Some(Sign {
+            operator,
+            fault: Some(ReportKind::InvalidOrOperator),
+            length: 2,
+        });
     }
     if keyword(text, at, b"OR") {
-        return Some(Sign { operator, fault: Some(ReportKind::InvalidOrOperator), length: 2 });
+        return Some(Sign {
+            operator,
+            fault: Some(ReportKind::InvalidOrOperator),
+            length: 2,
+        });
     }
     if keyword(text, at, b"or") {
-        return Some(Sign { operator, fault: None, length: 2 });
+        return Some(Sign {
+            operator,
+            fault: None,
+            length: 2,
+        });
     }
     if begins(text, at, b"|") {
-        return Some(Sign { operator, fault: None, length: 1 });
+        return Some(Sign {
+            operator,
+            fault: None,
+            length: 1,
+        });
     }
     if begins(text, at, b"+") {
-        return Some(Sign { operator, fault: None, length: 1 });
+        return Some(Sign {
+            operator,
+            fault: None,
+            length: 1,
+        });
     }
     None
 }
@@ -243,19 +295,39 @@ pub(crate) fn and_sign_at(text: &[u8], at: usize) -> Option<Sign>
 {
     let operator = Operator::Intersection;
     if begins(text, at, b"&&") {
-        return Some(Sign { operator, fault: Some(ReportKind::InvalidAndOperator), length: 2 });
+        return Some(Sign {
+            operator,
+            fault: Some(ReportKind::InvalidAndOperator),
+            length: 2,
+        });
     }
     if keyword(text, at, b"AND") {
-        return Some(Sign { operator, fault: Some(ReportKind::InvalidAndOperator), length: 3 });
+        return Some(Sign {
+            operator,
+            fault: Some(ReportKind::InvalidAndOperator),
+            length: 3,
+        });
     }
     if keyword(text, at, b"and") {
-        return Some(Sign { operator, fault: None, length: 3 });
+        return Some(Sign {
+            operator,
+            fault: None,
+            length: 3,
+        });
     }
     if begins(text, at, b"&") {
-        return Some(Sign { operator, fault: None, length: 1 });
+        return Some(Sign {
+            operator,
+            fault: None,
+            length: 1,
+        });
     }
     if begins(text, at, b"-") {
-        return Some(Sign { operator: Operator::Difference, fault: None, length: 1 });
+        return Some(Sign {
+            operator: Operator::Difference,
+            fault: None,
+            length: 1,
+        });
     }
     None
 }

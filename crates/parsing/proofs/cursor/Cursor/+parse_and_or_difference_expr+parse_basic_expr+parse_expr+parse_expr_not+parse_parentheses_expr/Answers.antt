@@ -106,9 +106,10 @@ parse-and-or-difference-expr-loop-operator-again t c =
     let h = c .in-Continue-parse-basic-expr-2 .ensures tt in
     let k = grown (λ x. basicAt x (c .args .free)) (same-text (v .kept) ∙ tm) (h .read) in
     let lt : m .pos < length text = omega (arith, move .0 .on, move .0 .within, ap length tm) in
-    let on : m .pos < c .parse-basic-expr-in-Some .last .self .pos = omega (arith, move .0 .on, h .moved .on) in
-    (moved-turn (c .loop-operator .inv .0) (move .0) (v .kept) (move .1) (h .moved) refl refl refl refl refl (c .push-reserved .ensures .len) (c .push-reserved .ensures .capacity),
-    togo-more text sign one (c .loop-operator .inv .1) g k refl (c .push-reserved .ensures .items) (same-nodes (v .kept)) lt on)
+    let on : m .pos < c .parse-basic-expr-in-Some .last .self .pos = omega (arith, move .0 .on, h .moved .on) in (
+      moved-turn (c .loop-operator .inv .0) (move .0) (v .kept) (move .1) (h .moved) refl refl refl refl refl (c .push-reserved .ensures .len) (c .push-reserved .ensures .capacity),
+      togo-more text sign one (c .loop-operator .inv .1) g k refl (c .push-reserved .ensures .items) (same-nodes (v .kept)) lt on,
+    )
 
 pub parse-and-or-difference-expr-returns : need.parse-and-or-difference-expr-returns
 parse-and-or-difference-expr-returns t c =
@@ -129,7 +130,7 @@ parse-and-or-difference-expr-returns t c =
     let e = togo-end text sign one a w g (v .stays (ap (λ (o : Option Operator). Ok o) (c .in-rest .is))) (same-nodes (v .kept)) (first .tree) in
     record {
       read = tree-ok (λ x. andAt x (c .args .free)) (chain-then text sign one (first .got) (e .got))
-        (e .pushed ∙ ap (λ (l : List ParsedNode). l ++ e .more) (first .nodes) ∙ append-assoc (held s) (nodesOf (first .tree)) (e .more) ∙ ap (λ (l : List ParsedNode). held s ++ l) (sym (e .nodes)));
+          (e .pushed ∙ ap (λ (l : List ParsedNode). l ++ e .more) (first .nodes) ∙ append-assoc (held s) (nodesOf (first .tree)) (e .more) ∙ ap (λ (l : List ParsedNode). held s ++ l) (sym (e .nodes)));
       moved = search needs;
     }
 
@@ -353,9 +354,10 @@ parse-expr-loop-operator-again t c =
     let h = c .in-Continue-parse-and-or-difference-expr-2 .ensures tt in
     let k = grown (λ x. andAt x (c .args .free)) (same-text (v .kept) ∙ tm) (h .read) in
     let lt : m .pos < length text = omega (arith, move .0 .on, move .0 .within, ap length tm) in
-    let on : m .pos < c .parse-and-or-difference-expr-in-Some .last .self .pos = omega (arith, move .0 .on, h .moved .on) in
-    (moved-turn (c .loop-operator .inv .0) (move .0) (v .kept) (move .1) (h .moved) refl refl refl refl refl (c .push-reserved .ensures .len) (c .push-reserved .ensures .capacity),
-    togo-more text sign one (c .loop-operator .inv .1) g k refl (c .push-reserved .ensures .items) (same-nodes (v .kept)) lt on)
+    let on : m .pos < c .parse-and-or-difference-expr-in-Some .last .self .pos = omega (arith, move .0 .on, h .moved .on) in (
+      moved-turn (c .loop-operator .inv .0) (move .0) (v .kept) (move .1) (h .moved) refl refl refl refl refl (c .push-reserved .ensures .len) (c .push-reserved .ensures .capacity),
+      togo-more text sign one (c .loop-operator .inv .1) g k refl (c .push-reserved .ensures .items) (same-nodes (v .kept)) lt on,
+    )
 
 pub parse-expr-returns : need.parse-expr-returns
 parse-expr-returns t c =
@@ -376,7 +378,7 @@ parse-expr-returns t c =
     let e = togo-end text sign one a w g (v .stays (ap (λ (o : Option Operator). Ok o) (c .in-rest .is))) (same-nodes (v .kept)) (first .tree) in
     record {
       read = tree-ok (λ x. orAt x (c .args .free)) (chain-then text sign one (first .got) (e .got))
-        (e .pushed ∙ ap (λ (l : List ParsedNode). l ++ e .more) (first .nodes) ∙ append-assoc (held s) (nodesOf (first .tree)) (e .more) ∙ ap (λ (l : List ParsedNode). held s ++ l) (sym (e .nodes)));
+          (e .pushed ∙ ap (λ (l : List ParsedNode). l ++ e .more) (first .nodes) ∙ append-assoc (held s) (nodesOf (first .tree)) (e .more) ∙ ap (λ (l : List ParsedNode). held s ++ l) (sym (e .nodes)));
       moved = search needs;
     }
 

@@ -15,13 +15,13 @@ pub returns : need.returns
 returns c =
     elim (c .if-self .came) [
       | then-self w ↦ record {
-          ran = record { state = ap counted (w .self-is) ∙ simp (add-zero, c .or-self .ensures); result = refl };
-          kept = record { text = ap (λ (s : Cursor). s .text) (w .self-is); nodes = ap (λ (s : Cursor). s .nodes) (w .self-is) }
-        }
+        ran = record { state = ap counted (w .self-is) ∙ simp (add-zero, c .or-self .ensures); result = refl };
+        kept = record { text = ap (λ (s : Cursor). s .text) (w .self-is); nodes = ap (λ (s : Cursor). s .nodes) (w .self-is) };
+      }
       | else-self w ↦
           let p = set-past (now (c .args .self .now .table)) (c .args .self .now .count) (record { kind = c .args .kind; start = c .args .start; length = c .args .length }) (w .if-self .left) in
           record {
             ran = record { state = ap counted (w .self-is) ∙ simp (add-zero, p, c .or-self .ensures); result = refl };
-            kept = record { text = ap (λ (s : Cursor). s .text) (w .self-is); nodes = ap (λ (s : Cursor). s .nodes) (w .self-is) }
+            kept = record { text = ap (λ (s : Cursor). s .text) (w .self-is); nodes = ap (λ (s : Cursor). s .nodes) (w .self-is) };
           }
     ]

@@ -37,7 +37,7 @@ returns-in-Marked c =
     let g = got-ok matcherOnly (re (λ x. matcherAt x (c .in-Marked .kind)) te (c .parse-matcher .ensures .ran)) in
     record {
       ran = ran-by matcherOnly (got-then (moved (skip t (s .at .pos))) _ (got-same (c .skip-blanks .ensures .ran))
-        (got-by (ap (λ (k : Mark). argumentFor t (c .args .usual) k (m .at)) mk)
+          (got-by (ap (λ (k : Mark). argumentFor t (c .args .usual) k (m .at)) mk)
           (got-then (moved (m .at .pos + 1)) _ (got-moved m (m .at .pos + 1)) (g .1)))) (ap Ok (g .2));
       kept = search needs;
       moved = search needs;
@@ -54,7 +54,7 @@ returns-in-Unmarked c =
     let g = got-ok matcherOnly (re (λ x. matcherAt x (c .args .usual)) te (c .parse-matcher-in-Unmarked .ensures .ran)) in
     record {
       ran = ran-by matcherOnly (got-then (moved (skip t (s .at .pos))) _ (got-same (c .skip-blanks .ensures .ran))
-        (got-by (ap (λ (k : Mark). argumentFor t (c .args .usual) k (m .at)) mk) (g .1))) (ap Ok (g .2));
+          (got-by (ap (λ (k : Mark). argumentFor t (c .args .usual) k (m .at)) mk) (g .1))) (ap Ok (g .2));
       kept = search needs;
       moved = search needs;
     }

@@ -31,10 +31,10 @@ returns-in-Some-fault c =
     let g = c .in-Some .sign in
     record {
       ran = ran-same (got-by (ap (λ (x : Option Sign). signFor (c .args .start) x (s .at)) (sym (c .in-Some .is)))
-        (got-then (moved (c .args .start + g .length)) _ (got-moved s (c .args .start + g .length))
+          (got-then (moved (c .args .start + g .length)) _ (got-moved s (c .args .start + g .length))
           (got-then (part (c .args .start)) _ (got-same (c .in-Continue-count-part .ensures tt .ran))
-            (got-then (faultOf (g .fault) (c .args .start) (g .length)) _ (got-by (ap (λ (x : Option ReportKind). faultOf x (c .args .start) (g .length) (view (c .count-part .last .self) .at)) (sym (c .in-Some-fault .is))) (got-same (c .report .ensures .ran)))
-              (got-done (view (c .report .last .self)) (Some (g .operator)))))));
+          (got-then (faultOf (g .fault) (c .args .start) (g .length)) _ (got-by (ap (λ (x : Option ReportKind). faultOf x (c .args .start) (g .length) (view (c .count-part .last .self) .at)) (sym (c .in-Some-fault .is))) (got-same (c .report .ensures .ran)))
+          (got-done (view (c .report .last .self)) (Some (g .operator)))))));
       kept = search needs;
       moved = search needs;
       stays = λ e. absurd (let z : _≡_ {A = ℕ} 0 1 = cc in omega arith);
@@ -46,10 +46,10 @@ returns-in-rest-fault c =
     let g = c .in-Some .sign in
     record {
       ran = ran-same (got-by (ap (λ (x : Option Sign). signFor (c .args .start) x (s .at)) (sym (c .in-Some .is)))
-        (got-then (moved (c .args .start + g .length)) _ (got-moved s (c .args .start + g .length))
+          (got-then (moved (c .args .start + g .length)) _ (got-moved s (c .args .start + g .length))
           (got-then (part (c .args .start)) _ (got-same (c .in-Continue-count-part .ensures tt .ran))
-            (got-then (faultOf (g .fault) (c .args .start) (g .length)) _ (got-by (ap (λ (x : Option ReportKind). faultOf x (c .args .start) (g .length) (view (c .count-part .last .self) .at)) (sym (c .in-rest-fault .is))) (got-done (view (c .count-part .last .self)) tt))
-              (got-done (view (c .count-part .last .self)) (Some (g .operator)))))));
+          (got-then (faultOf (g .fault) (c .args .start) (g .length)) _ (got-by (ap (λ (x : Option ReportKind). faultOf x (c .args .start) (g .length) (view (c .count-part .last .self) .at)) (sym (c .in-rest-fault .is))) (got-done (view (c .count-part .last .self)) tt))
+          (got-done (view (c .count-part .last .self)) (Some (g .operator)))))));
       kept = search needs;
       moved = search needs;
       stays = λ e. absurd (let z : _≡_ {A = ℕ} 0 1 = cc in omega arith);

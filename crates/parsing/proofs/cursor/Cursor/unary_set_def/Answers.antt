@@ -66,7 +66,7 @@ returns-in-Some c =
     let one : NameMatcher → List ParsedNode = λ n. node.Set (parsed.Matched (c .args .predicate) n at) ∷ [] in
     record {
       read = tree-ok (λ x. unaryAt x (c .args .predicate)) (unary-got t (c .args .predicate) (got-same (c .expect-char .ensures .ran)) g closed)
-        (c .push-reserved .ensures .items ∙ ap (λ (l : List ParsedNode). l ++ one (c .in-Some .matcher)) (same-nodes k4) ∙ ap (λ (n : NameMatcher). held s ++ one n) (m .2));
+          (c .push-reserved .ensures .items ∙ ap (λ (l : List ParsedNode). l ++ one (c .in-Some .matcher)) (same-nodes k4) ∙ ap (λ (n : NameMatcher). held s ++ one n) (m .2));
       moved = search needs;
     }
 
