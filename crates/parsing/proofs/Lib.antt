@@ -20,3 +20,5 @@ mod LawSound
 mod LawPlaces
 mod LawWhole
 mod LawUnique
+pub mod Spelling
+mod LawCall

@@ -8,7 +8,7 @@ use native.Mathlib.Omega.{arith}
 use native.Mathlib.Numerals.{add-one}
 use native.Mathlib.Nat.{add-zero}
 use lib.Dec.{eqb}
-use lib.ListN.{length, getD, drop}
+use lib.ListN.{length, getD, drop, length-drop}
 use lib.Seq.{drop-cons, getD-drop}
 use Rattle.std.proofs.shelf.Lists.{drop-all, getD-past}
 use Rattle.std.proofs.shelf.Tests.{eq-eqb, ne-eqb, cases-lt, cases-eq}
@@ -114,3 +114,31 @@ white-more {t} {from} {p} g h ne = go (g .fuel) (g .enough) (g .same)
     go : (f : ℕ) → length t ≤ p + f → whitesAt t f p ≡ whiteEnd t from → ToGo t from (p + whiteAt t p)
     go zero l s = absurd (omega arith)
     go (suc f) l s = record { fuel = f; enough = omega (arith, ne); same = sym (ap (λ (b : Bool). cond b p (whitesAt t f (p + whiteAt t p))) (ne-eqb (whiteAt t p) 0 ne)) ∙ s }
+
+-- both stay in the text
+few-blanks : (l : List ℕ) → blanks l ≤ length l
+unfolding blanks
+few-blanks [] = omega arith
+few-blanks (b ∷ l) = let h = few-blanks l in elim (isBlank b (getD l 0 0)) as (λ v. cond v (suc (blanks l)) 0 ≤ suc (length l)) [ true ↦ omega arith | false ↦ omega arith ]
+
+few-unclosed : (l : List ℕ) → unclosed l ≤ length l
+unfolding unclosed
+few-unclosed [] = omega arith
+few-unclosed (b ∷ l) = let h = few-unclosed l in elim (eqb b 41) as (λ v. cond v 0 (suc (unclosed l)) ≤ suc (length l)) [ true ↦ omega arith | false ↦ omega arith ]
+
+module _ (t : List ℕ) (p : ℕ) where
+  pub skip-from : p ≤ skip t p
+  unfolding skip
+  skip-from = omega arith
+
+  pub skip-within : p ≤ length t → skip t p ≤ length t
+  unfolding skip
+  skip-within h = omega (arith, few-blanks (drop p t), length-drop p t)
+
+  pub closing-from : p ≤ closing t p
+  unfolding closing
+  closing-from = omega arith
+
+  pub closing-within : p ≤ length t → closing t p ≤ length t
+  unfolding closing
+  closing-within h = omega (arith, few-unclosed (drop p t), length-drop p t)

@@ -6,3 +6,4 @@ pub mod Reading
 pub mod Nodes
 pub mod View
 pub mod Outcome
+pub mod Law

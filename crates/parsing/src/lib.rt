@@ -9,6 +9,7 @@ ghost use lib.ListN.{length};
 ghost use lib.Seq.{sets};
 ghost use Rattle.std.specs.Of.Vec.{vec-items, vec-len, vec-cap};
 ghost use Rattle.std.specs.declared.result.Result.the-variants.{Ok, Err};
+ghost use Rattle.parsing.specs.Law.{Law};
 ghost use Rattle.parsing.specs.Nodes.{nodesOf};
 ghost use Rattle.parsing.specs.Reading.{readingOf};
 ghost use Rattle.parsing.specs.Outcome.{answerFor, answerOf, tableOf, spaceOf, nodesLeft, treeOf, verdictOf};
@@ -87,6 +88,7 @@ pub fn parse(
     ensures reports { λ _. ⌜ now (reports .exit) ≡ tableOf (now (text .entry)) (now (reports .entry)) ⌝ }
     ensures space { λ _. ⌜ now (space .exit) ≡ spaceOf (now (text .entry)) (now (space .entry)) ⌝ }
     ensures nodes { λ _. ⌜ vec-items (now (nodes .exit) .items) ≡ nodesLeft (now (text .entry)) ⌝ }
+    ensures law { λ r. ⌜ Law (now (text .entry)) (now (space .exit)) (vec-items (now (nodes .exit) .items)) r ⌝ }
 {
     nodes.items.clear();
     if text.len() > LONGEST {
