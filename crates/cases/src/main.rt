@@ -1,5 +1,7 @@
 // Reads filters. Each line of the input is a kind letter (T, A, O or D, which says later what the filter is for), a space and a text.
 // Prints for each line `read` and the reading in postfix, or `refuse`, the number of the refusal, the place, the count and the reports.
+#![tactic(auto)]
+
 use errors::faults::ReadingFault;
 use errors::reports::{Report, ReportKind};
 use errors::texts::check_text;

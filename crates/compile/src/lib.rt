@@ -1,6 +1,8 @@
 // Copyright (c) The nextest Contributors
 // SPDX-License-Identifier: MIT OR Apache-2.0
 
+#![tactic(auto)]
+
 // Lowering: what was read of a filter becomes nodes over the caller's tables.
 mod compile;
 pub mod filter;

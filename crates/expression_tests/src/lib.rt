@@ -1,4 +1,6 @@
 // Examples of what filters are evaluated with.
+#![tactic(auto)]
+
 ghost use Rattle.std.specs.Prelude.{◌≡◌};
 
 use expression::evaluate::Leaves;

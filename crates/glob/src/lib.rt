@@ -1,6 +1,8 @@
 // Copyright (c) The nextest Contributors
 // SPDX-License-Identifier: MIT OR Apache-2.0
 
+#![tactic(auto)]
+
 // Plain globs over bytes: `*` takes any run, `?` one byte, `[..]` one listed byte, `[!..]` one unlisted byte, `\` makes the next byte plain.
 ghost use Rattle.std.specs.Prelude.{◌≡◌, ℕ, ◌+◌, ◌-◌, ◌^◌, ◌<◌, ◌≤◌, Bool, true, false, List, length, drop, is_some, Decides};
 ghost use Rattle.glob.specs.Glob.{Item, Pattern, is_member, within, takes as takes_byte, WellFormed, Matches};

@@ -1,6 +1,8 @@
 // Copyright (c) The nextest Contributors
 // SPDX-License-Identifier: MIT OR Apache-2.0
 
+#![tactic(auto)]
+
 // The filter language: a text is read as a filter, or refused with a report on each fault.
 ghost use Rattle.std.specs.Prelude.{◌≡◌, ℕ, ◌≤◌, List, [], length, Ok, Err, vec_len, vec_capacity};
 ghost use Rattle.std.proofs.lemmas.List.Edits.{sets};

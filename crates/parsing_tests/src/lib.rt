@@ -1,4 +1,6 @@
 // What a line of the case program cannot hold: line ends, short report tables, and the decoding space.
+#![tactic(auto)]
+
 #[cfg(test)]
 mod tests {
     use errors::faults::ReadingFault;

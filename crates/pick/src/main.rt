@@ -1,4 +1,6 @@
 // Picks test binaries by a plain glob: the first line of the input is the glob, each further line the name of a binary.
+#![tactic(auto)]
+
 use lines::split_lines;
 use picking::{Picking, pick};
 use std::io;

@@ -1,4 +1,6 @@
 // Picks test binaries by a plain glob.
+#![tactic(auto)]
+
 ghost use Rattle.std.specs.Prelude.{◌≡◌, map, IfOk};
 ghost use Rattle.picking.specs.Picks.{PicksFrom};
 

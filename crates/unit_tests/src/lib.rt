@@ -1,4 +1,6 @@
 // Tests of the report and fault types, the check of a text, plain globs, recorded answers, lines and picking.
+#![tactic(auto)]
+
 #[cfg(test)]
 mod globs;
 #[cfg(test)]
