@@ -11,8 +11,8 @@ returns-then-text-gt-LONGEST c = record {
   law = law-of c.args.text.now c.args.space.now _ _ _ (search rules) (search rules) (search rules);
 }
 
-pub returns-then-is-err : goal.returns-then-is-err
-returns-then-is-err c = record {
+pub returns-then-is_err : goal.returns-then-is_err
+returns-then-is_err c = record {
   answer = search rules;
   reports = search rules;
   space = search rules;
@@ -20,8 +20,8 @@ returns-then-is-err c = record {
   law = law-of c.args.text.now c.args.space.now _ _ _ (search rules) (search rules) (search rules);
 }
 
-pub returns-else-is-err : goal.returns-else-is-err
-returns-else-is-err c = record {
+pub returns-else-is_err : goal.returns-else-is_err
+returns-else-is_err c = record {
   answer = search rules;
   reports = search rules;
   space = search rules;

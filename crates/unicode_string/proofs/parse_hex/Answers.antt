@@ -22,7 +22,7 @@ overflow-add-code c =
 
 pub loop-left-preserved : goal.loop-left-preserved
 loop-left-preserved c =
-    let is = c.hex-value-d.ensures in
+    let is = c.hex_value-d.ensures in
     let ne : (hex_of (get_or c.args.text.now c.loop-left.next 0) ≡ 255 → ⊥) = λ e. c.if-d.false (is ∙ e) in
     (omega arith, room _ _ _ c.loop-left-test.true (rw is (hex-small _ ne)) c.loop-left.invariant.1, rw is (digits-on _ _ _ _ c.loop-left-test.true ne ∙ c.loop-left.invariant.2))
 

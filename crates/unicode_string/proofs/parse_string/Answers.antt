@@ -5,8 +5,8 @@ use Rattle.unicode_string.proofs.parse_string.Goals as goal
 pub returns : goal.returns
 returns c =
     let a = c.args in
-    let ok = sym c.if-not-has-room.ensures in
-    let name = c.parse-name-name.ensures.found in
+    let ok = sym c.if-not-has_room.ensures in
+    let name = c.parse_name-name.ensures.found in
     record {
       read = read_is a.text.now a.at a.count a.used ok name (search rules) (search rules) (search rules) (search rules);
       reports = reports-are a.text.now a.at a.count a.used ok _ _ (search rules);

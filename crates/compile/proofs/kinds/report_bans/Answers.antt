@@ -15,7 +15,7 @@ pub loop-node-preserved : goal.loop-node-preserved
 loop-node-preserved c =
     let xs = c.args.nodes.now in let i = c.loop-node.node-index in let f = ban_node c.args.kind in
     let j = joined-take f xs i no_node c.loop-node-test.true in
-    let e = c.ban-node-tally.ensures in (
+    let e = c.ban_node-tally.ensures in (
       table_more c.args.reports.now c.loop-node.reports _ c.loop-node.tally _ _ _ c.loop-node.invariant.0 c.loop-node.invariant.1 e.table j,
       tally-more c.loop-node.tally _ _ _ _ c.loop-node.invariant.1 e.tally j,
       omega (arith, c.loop-node.invariant.2, ap (λ (z : Tally). z.count) e.tally, few-bans c.args.kind (word_as (get_or xs i no_node))),

@@ -14,9 +14,9 @@ pub loop-i-init : goal.loop-i-init
 loop-i-init g c =
     let p = passes (is_taken (g.M.Matcher.matches c.args.matcher.now) c.args.kind c.args.value.now) (group_names (map (name_at c.args.names.now) c.args.rows.now)) in
     let start = c.new-set.ensures.words ∙ set_of-none width p in
-    elim c.if-is-match.branch [
-      | then-is-match w ↦ ap (λ (x : NumberSet). x.words) w.set-is ∙ w.insert.ensures.words ∙ set_of-in width p 0 c.new-set.result.words (sym c.is-match.ensures.value ∙ w.if-is-match.true) start
-      | else-is-match w ↦ ap (λ (x : NumberSet). x.words) w.set-is ∙ set_of-out width p 0 c.new-set.result.words (sym c.is-match.ensures.value ∙ w.if-is-match.false) start
+    elim c.if-is_match.branch [
+      | then-is-match w ↦ ap (λ (x : NumberSet). x.words) w.set-is ∙ w.insert.ensures.words ∙ set_of-in width p 0 c.new-set.result.words (sym c.is_match.ensures.value ∙ w.if-is-match.true) start
+      | else-is-match w ↦ ap (λ (x : NumberSet). x.words) w.set-is ∙ set_of-out width p 0 c.new-set.result.words (sym c.is_match.ensures.value ∙ w.if-is-match.false) start
     ]
 
 pub loop-i-preserved : goal.loop-i-preserved
@@ -26,9 +26,9 @@ loop-i-preserved g c =
     let p = passes f (group_names (map h c.args.rows.now)) in
     let i = c.loop-i.i in
     let s = c.loop-i.set.words in
-    let same : c.is-match-in-loop-i.result ≡ p (i + 1) =
-    c.is-match-in-loop-i.ensures.value ∙ ap f (c.name-at.ensures ∙ sym (get_or-map h c.args.rows.now i nowhere [] c.loop-i-test.true)) ∙ sym (ap p (add-one i)) in
-    elim c.if-is-match-2.branch [
+    let same : c.is_match-in-loop-i.result ≡ p (i + 1) =
+    c.is_match-in-loop-i.ensures.value ∙ ap f (c.name_at.ensures ∙ sym (get_or-map h c.args.rows.now i nowhere [] c.loop-i-test.true)) ∙ sym (ap p (add-one i)) in
+    elim c.if-is_match-2.branch [
       | then-is-match-2 w ↦ ap (λ (x : NumberSet). x.words) w.set-is ∙ w.insert-then-is-match-2.ensures.words ∙ set_of-in width p (i + 1) s (sym same ∙ w.if-is-match-2.true) c.loop-i.invariant
       | else-is-match-2 w ↦ ap (λ (x : NumberSet). x.words) w.set-is ∙ set_of-out width p (i + 1) s (sym same ∙ w.if-is-match-2.false) c.loop-i.invariant
     ]

@@ -21,9 +21,9 @@ loop-i-preserved g c =
     let p = passes f (map h c.args.rows.now) in
     let i = c.loop-i.i in
     let s = c.loop-i.set.words in
-    let same : c.is-match.result ≡ p i =
-    c.is-match.ensures.value ∙ ap f (c.name-at.ensures ∙ sym (get_or-map h c.args.rows.now i nowhere [] c.loop-i-test.true)) in
-    elim c.if-is-match.branch [
+    let same : c.is_match.result ≡ p i =
+    c.is_match.ensures.value ∙ ap f (c.name_at.ensures ∙ sym (get_or-map h c.args.rows.now i nowhere [] c.loop-i-test.true)) in
+    elim c.if-is_match.branch [
       | then-is-match w ↦ ap (λ (x : NumberSet). x.words) w.set-is ∙ w.insert.ensures.words ∙ set_of-in width p i s (sym same ∙ w.if-is-match.true) c.loop-i.invariant
       | else-is-match w ↦ ap (λ (x : NumberSet). x.words) w.set-is ∙ set_of-out width p i s (sym same ∙ w.if-is-match.false) c.loop-i.invariant
     ]

@@ -14,7 +14,7 @@ loop-to-preserved g c =
     let p : ℕ → Bool = is_led c.args.way (g.O.DependencyOracle.depends c.args.oracle.now) c.args.set.words c.args.count in
     let i = c.loop-to.to in
     let s = c.loop-to.found.words in
-    elim c.if-is-led.branch [
-      | then-is-led w ↦ ap (λ (x : NumberSet). x.words) w.found-is ∙ w.insert.ensures.words ∙ set_of-in width p i s (sym c.is-led.ensures ∙ w.if-is-led.true) c.loop-to.invariant
-      | else-is-led w ↦ ap (λ (x : NumberSet). x.words) w.found-is ∙ set_of-out width p i s (sym c.is-led.ensures ∙ w.if-is-led.false) c.loop-to.invariant
+    elim c.if-is_led.branch [
+      | then-is-led w ↦ ap (λ (x : NumberSet). x.words) w.found-is ∙ w.insert.ensures.words ∙ set_of-in width p i s (sym c.is_led.ensures ∙ w.if-is-led.true) c.loop-to.invariant
+      | else-is-led w ↦ ap (λ (x : NumberSet). x.words) w.found-is ∙ set_of-out width p i s (sym c.is_led.ensures ∙ w.if-is-led.false) c.loop-to.invariant
     ]

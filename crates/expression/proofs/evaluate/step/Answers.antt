@@ -45,7 +45,7 @@ returns-else-n-lt1 g c =
     let s = c.args.stack.now in let n = c.args.n in
     let o = g.L.Logic.ops in let f = g.C.Leaves.shows c.args.leaves.now in
     record {
-      stack = one-put o.negated s n c.index-stack-n.result c.logic-not.result c.if-n-lt1.false c.requires c.index-stack-n.is c.logic-not.ensures ∙ sym (ap (λ x. acts o f (length s) x (tops s n)) c.in-Not.is);
+      stack = one-put o.negated s n c.index-stack-n.result c.logic_not.result c.if-n-lt1.false c.requires c.index-stack-n.is c.logic_not.ensures ∙ sym (ap (λ x. acts o f (length s) x (tops s n)) c.in-Not.is);
       bound = simp length-set c.requires;
     }
 
@@ -54,7 +54,7 @@ returns-else-n-lt2 g c =
     let s = c.args.stack.now in let n = c.args.n in
     let o = g.L.Logic.ops in let f = g.C.Leaves.shows c.args.leaves.now in
     record {
-      stack = two-put o.both s n c.index-stack-n-in-And.result c.index-stack-n-in-And-2.result c.logic-and.result c.if-n-lt2.false c.requires c.index-stack-n-in-And.is c.index-stack-n-in-And-2.is c.logic-and.ensures ∙ sym (ap (λ x. acts o f (length s) x (tops s n)) c.in-And.is);
+      stack = two-put o.both s n c.index-stack-n-in-And.result c.index-stack-n-in-And-2.result c.logic_and.result c.if-n-lt2.false c.requires c.index-stack-n-in-And.is c.index-stack-n-in-And-2.is c.logic_and.ensures ∙ sym (ap (λ x. acts o f (length s) x (tops s n)) c.in-And.is);
       bound = simp length-set (omega (arith, c.requires));
     }
 
@@ -63,6 +63,6 @@ returns-else-n-lt2-2 g c =
     let s = c.args.stack.now in let n = c.args.n in
     let o = g.L.Logic.ops in let f = g.C.Leaves.shows c.args.leaves.now in
     record {
-      stack = two-put o.either s n c.index-stack-n-in-Or.result c.index-stack-n-in-Or-2.result c.logic-or.result c.if-n-lt2-2.false c.requires c.index-stack-n-in-Or.is c.index-stack-n-in-Or-2.is c.logic-or.ensures ∙ sym (ap (λ x. acts o f (length s) x (tops s n)) c.in-Or.is);
+      stack = two-put o.either s n c.index-stack-n-in-Or.result c.index-stack-n-in-Or-2.result c.logic_or.result c.if-n-lt2-2.false c.requires c.index-stack-n-in-Or.is c.index-stack-n-in-Or-2.is c.logic_or.ensures ∙ sym (ap (λ x. acts o f (length s) x (tops s n)) c.in-Or.is);
       bound = simp length-set (omega (arith, c.requires));
     }

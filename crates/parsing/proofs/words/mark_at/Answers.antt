@@ -22,6 +22,6 @@ pub returns-in-126 : goal.returns-in-126
 unfolding mark_at
 returns-in-126 c = search rules
 
-pub returns-in-default : goal.returns-in-default
+pub returns-in_default : goal.returns-in_default
 unfolding mark_at
-returns-in-default c = search rules
+returns-in_default c = search rules

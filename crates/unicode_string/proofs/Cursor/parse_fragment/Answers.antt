@@ -11,7 +11,7 @@ returns-then-plain c =
     let t = c.args.self.now.text.now in
     let p = c.args.self.now.pos in
     let e = frag-plain t p (sym c.if-plain.ensures) in
-    let q = c.literal-end-self.ensures.value in
+    let q = c.literal_end-self.ensures.value in
     record {
       ran = ran-moved (view c.args.self.now) (frag_at t p) (q ∙ ap (λ (o : Out). o.at) e) (ap (λ (o : Out). o.reports) e);
       value = ap (λ (n : ℕ). take (n - p) (drop p t)) q ∙ ap (λ (o : Out). o.bytes) e;
@@ -22,7 +22,7 @@ pub returns-in-Some : goal.returns-in-Some
 returns-in-Some c =
     let t = c.args.self.now.text.now in
     let p = c.args.self.now.pos in
-    let is = sym c.in-Some.is ∙ c.parse-escaped-char.ensures in
+    let is = sym c.in-Some.is ∙ c.parse_escaped_char.ensures in
     let e = frag-escape t p (sym c.if-plain.ensures) is in
     record {
       ran = ran-moved (view c.args.self.now) (frag_at t p) (ap (λ (o : Out). o.at) e) (ap (λ (o : Out). o.reports) e);
@@ -35,7 +35,7 @@ returns-in-None c =
     let t = c.args.self.now.text.now in
     let p = c.args.self.now.pos in
     let s = view c.args.self.now in
-    let e = frag-escape t p (sym c.if-plain.ensures) (sym c.in-None.is ∙ c.parse-escaped-char.ensures) in
+    let e = frag-escape t p (sym c.if-plain.ensures) (sym c.in-None.is ∙ c.parse_escaped_char.ensures) in
     record {
       ran = subst (λ (o : Out). Ran s (moved o) (view c.report.new.self)) e (record {
         state =

@@ -13,7 +13,7 @@ returns-then-self-before c =
     let s = view c.args.self.now in
     let t = s.text in
     let o = frags_at t (length t) s.pos in
-    let e = name-escape t s.pos s.used (ap (λ (q : ℕ). get_or t q 0) (sym c.literal-end-end.ensures.value) ∙ c.if-self-end-eq92.true) in
+    let e = name-escape t s.pos s.used (ap (λ (q : ℕ). get_or t q 0) (sym c.literal_end-end.ensures.value) ∙ c.if-self-end-eq92.true) in
     record {
       ran = subst (λ (n : Named). Ran s n.out (view c.decode.new.self)) e c.decode.ensures;
       found = found_none s.used o (λ z. omega (arith, z, count-is c.decode.ensures, c.if-self-before.true)) ∙ ap (λ (n : Named). n.name) e;
@@ -24,7 +24,7 @@ returns-then-self-end-eq92 c =
     let s = view c.args.self.now in
     let t = s.text in
     let o = frags_at t (length t) s.pos in
-    let e = name-escape t s.pos s.used (ap (λ (q : ℕ). get_or t q 0) (sym c.literal-end-end.ensures.value) ∙ c.if-self-end-eq92.true) in
+    let e = name-escape t s.pos s.used (ap (λ (q : ℕ). get_or t q 0) (sym c.literal_end-end.ensures.value) ∙ c.if-self-end-eq92.true) in
     record {
       ran = subst (λ (n : Named). Ran s n.out (view c.decode.new.self)) e c.decode.ensures;
       found = found_some s.used o (omega (arith, count-is c.decode.ensures, c.if-self-before.false)) (omega (arith, used-is c.decode.ensures)) ∙ ap (λ (n : Named). n.name) e;
@@ -33,8 +33,8 @@ returns-then-self-end-eq92 c =
 pub returns-then-end-start : goal.returns-then-end-start
 returns-then-end-start c =
     let s = view c.args.self.now in
-    let q = c.literal-end-end.result in
-    let v = c.literal-end-end.ensures.value in
+    let q = c.literal_end-end.result in
+    let v = c.literal_end-end.ensures.value in
     let plain : (get_or s.text q 0 ≡ 92 → ⊥) = elim c.else-end-self.branch [
       | else-end-self-via-then-end-self+else-self-end-eq92 w ↦ w.if-self-end-eq92.false
       | else-end-self-via-else-end-self w ↦ past _ _ w.if-end-self.false (omega arith)
@@ -45,8 +45,8 @@ returns-then-end-start c =
 pub returns : goal.returns
 returns c =
     let s = view c.args.self.now in
-    let q = c.literal-end-end.result in
-    let v = c.literal-end-end.ensures.value in
+    let q = c.literal_end-end.result in
+    let v = c.literal_end-end.ensures.value in
     let plain : (get_or s.text q 0 ≡ 92 → ⊥) = elim c.else-end-self.branch [
       | else-end-self-via-then-end-self+else-self-end-eq92 w ↦ w.if-self-end-eq92.false
       | else-end-self-via-else-end-self w ↦ past _ _ w.if-end-self.false (omega arith)

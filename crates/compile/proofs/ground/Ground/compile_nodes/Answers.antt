@@ -9,21 +9,21 @@ use Rattle.compile.proofs.LoweredTrees.{copied-tree, noted-tree, emitted-tree}
 use Rattle.compile.proofs.Composed.{compiled-banned, compiled-no-groups, compiled-rest, refused-rest}
 use Rattle.compile.proofs.ground.Ground.compile_nodes.Goals as goal
 
-pub returns-in-err-check-bans : goal.returns-in-err-check-bans
-returns-in-err-check-bans g c t h e =
+pub returns-in-err-check_bans : goal.returns-in-err-check_bans
+returns-in-err-check_bans g c t h e =
     let y = err_from_is_err_and _ c.from-residual.ensures.1 in
     let n = named c.args.self.now in
-    compiled-banned c.args.kind _ t c.args.reports.now _ _ _ c.in-err-check-bans.field-0.0 _
-    (bans-of c.args.kind n c.args.parsed.now t e) c.check-bans.ensures.table (sym c.in-err-check-bans.was ∙ c.check-bans.ensures.answer) (y.1 ∙ ap Err y.2)
+    compiled-banned c.args.kind _ t c.args.reports.now _ _ _ c.in-err-check_bans.field-0.0 _
+    (bans-of c.args.kind n c.args.parsed.now t e) c.check_bans.ensures.table (sym c.in-err-check_bans.was ∙ c.check_bans.ensures.answer) (y.1 ∙ ap Err y.2)
 
-pub returns-in-err-check-groups : goal.returns-in-err-check-groups
-returns-in-err-check-groups g c t h e =
-    let y = err_from_is_err_and _ c.from-residual-in-err-check-groups.ensures.1 in
+pub returns-in-err-check_groups : goal.returns-in-err-check_groups
+returns-in-err-check_groups g c t h e =
+    let y = err_from_is_err_and _ c.from-residual-in-err-check_groups.ensures.1 in
     let n = named c.args.self.now in
     let w = world g.M.Matcher.matches g.O.DependencyOracle.depends c.args.self.now in
-    compiled-no-groups c.args.kind w t c.args.reports.now _ _ _ c.in-err-check-groups.field-0.0 _ c.leftmost-group-group.result
-    (bans-of c.args.kind n c.args.parsed.now t e) c.check-bans.ensures.table c.in-ok-check-bans.ensures.answer
-    (c.leftmost-group-group.ensures ∙ group_of n c.args.parsed.now t e) (sym c.in-err-check-groups.was ∙ c.check-groups.ensures) (y.1 ∙ ap Err y.2)
+    compiled-no-groups c.args.kind w t c.args.reports.now _ _ _ c.in-err-check_groups.field-0.0 _ c.leftmost_group-group.result
+    (bans-of c.args.kind n c.args.parsed.now t e) c.check_bans.ensures.table c.in-ok-check_bans.ensures.answer
+    (c.leftmost_group-group.ensures ∙ group_of n c.args.parsed.now t e) (sym c.in-err-check_groups.was ∙ c.check_groups.ensures) (y.1 ∙ ap Err y.2)
 
 pub returns-in-err-lower : goal.returns-in-err-lower
 returns-in-err-lower g c t h e =
@@ -31,20 +31,20 @@ returns-in-err-lower g c t h e =
     let n = named c.args.self.now in
     let w = world g.M.Matcher.matches g.O.DependencyOracle.depends c.args.self.now in
     let b = bans-of c.args.kind n c.args.parsed.now t e in
-    let q = c.leftmost-group-group.ensures ∙ group_of n c.args.parsed.now t e in
+    let q = c.leftmost_group-group.ensures ∙ group_of n c.args.parsed.now t e in
     let r = ap (noted w) (sym e) ∙ noted-tree w t in
     let is = sym c.in-err-lower.was ∙ c.lower.ensures.answer in
-    compiled-rest c.args.kind w t c.args.reports.now c.check-bans.new.reports _ _ _ _ c.leftmost-group-group.result _
-    b c.check-bans.ensures.table c.in-ok-check-bans.ensures.answer q c.in-ok-check-groups.ensures r c.lower.ensures.table (y.1 ∙ ap Err y.2 ∙ is)
-    (refused-rest c.args.kind w t _ c.in-err-lower.field-0.0 _ c.leftmost-group-group.result _ b c.in-ok-check-bans.ensures.answer q c.in-ok-check-groups.ensures r is)
+    compiled-rest c.args.kind w t c.args.reports.now c.check_bans.new.reports _ _ _ _ c.leftmost_group-group.result _
+    b c.check_bans.ensures.table c.in-ok-check_bans.ensures.answer q c.in-ok-check_groups.ensures r c.lower.ensures.table (y.1 ∙ ap Err y.2 ∙ is)
+    (refused-rest c.args.kind w t _ c.in-err-lower.field-0.0 _ c.leftmost_group-group.result _ b c.in-ok-check_bans.ensures.answer q c.in-ok-check_groups.ensures r is)
 
 pub returns : goal.returns
 returns g c t h e =
     let n = named c.args.self.now in
     let w = world g.M.Matcher.matches g.O.DependencyOracle.depends c.args.self.now in
     let b = bans-of c.args.kind n c.args.parsed.now t e in
-    let q = c.leftmost-group-group.ensures ∙ group_of n c.args.parsed.now t e in
+    let q = c.leftmost_group-group.ensures ∙ group_of n c.args.parsed.now t e in
     let r = ap (noted w) (sym e) ∙ noted-tree w t in
-    compiled-rest c.args.kind w t c.args.reports.now c.check-bans.new.reports _ _ _ _ c.leftmost-group-group.result _
-    b c.check-bans.ensures.table c.in-ok-check-bans.ensures.answer q c.in-ok-check-groups.ensures r c.lower.ensures.table c.in-ok-lower.ensures.answer
+    compiled-rest c.args.kind w t c.args.reports.now c.check_bans.new.reports _ _ _ _ c.leftmost_group-group.result _
+    b c.check_bans.ensures.table c.in-ok-check_bans.ensures.answer q c.in-ok-check_groups.ensures r c.lower.ensures.table c.in-ok-lower.ensures.answer
     (λ _. record { nodes = c.lower.ensures.nodes ∙ ap (emitted w 0) (sym e) ∙ emitted-tree w 0 t h; names = c.lower.ensures.names ∙ ap copied (sym e) ∙ copied-tree t; group = q })

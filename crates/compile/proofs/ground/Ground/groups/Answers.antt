@@ -19,4 +19,4 @@ returns-in-Some g c =
     let w = world g.M.Matcher.matches g.O.DependencyOracle.depends c.args.self.now in
     let t = c.args.self.now.tables in
     let f = fits w c.args.kind c.args.value.now in
-    c.matching-groups.ensures ∙ ap (λ z. groups_of f (option_map (map (name_at t.names.now)) (option_map (λ x. x.now) z))) (sym c.in-Some.is)
+    c.matching_groups.ensures ∙ ap (λ z. groups_of f (option_map (map (name_at t.names.now)) (option_map (λ x. x.now) z))) (sym c.in-Some.is)

@@ -10,8 +10,8 @@ use Rattle.compile.proofs.Rows.{no_node}
 use Rattle.compile.proofs.LoweredRows.{lowers_then, lowers-one, few-notes, room-sizes, room-copied}
 use Rattle.compile.proofs.ground.Ground.lower_nodes.Goals as goal
 
-pub lower-node-tally-requires : goal.lower-node-tally-requires
-lower-node-tally-requires g c =
+pub lower_node-tally-requires : goal.lower_node-tally-requires
+lower_node-tally-requires g c =
     let xs = c.args.parsed.now in let i = c.loop-node.node-index in
     let f = word_of c.args.self.now in
     record {
@@ -26,10 +26,10 @@ loop-node-preserved g c =
     let f = word_of c.args.self.now in
     let w = world g.M.Matcher.matches g.O.DependencyOracle.depends c.args.self.now in
     let x = f (get_or xs i no_node) in
-    let e = c.lower-node-tally.ensures in
+    let e = c.lower_node-tally.ensures in
     let s0 : State = state (vec_items c.args.nodes.now) (vec_items c.args.names.now) c.args.reports.now no_reports in
     let s : State = state (vec_items c.loop-node.nodes) (vec_items c.loop-node.names) c.loop-node.reports c.loop-node.tally in
-    let t : State = state (vec_items c.lower-node-tally.new.nodes) (vec_items c.lower-node-tally.new.names) c.lower-node-tally.new.reports c.lower-node-tally.result in (
+    let t : State = state (vec_items c.lower_node-tally.new.nodes) (vec_items c.lower_node-tally.new.names) c.lower_node-tally.new.reports c.lower_node-tally.result in (
       subst (λ (z : List (Word (List ℕ))). Lowers w z s0 t) (sym (map_more f xs i no_node c.loop-node-test.true)) (lowers_then w (map f (take i xs)) (x ∷ []) s0 s t c.loop-node.invariant.0 (lowers-one w x s t e.nodes e.names e.table e.tally)),
       omega (arith, c.loop-node.invariant.1, room-sizes f xs i no_node c.loop-node-test.true, e.node-len, e.node-cap),
       omega (arith, c.loop-node.invariant.2, room-copied f xs i no_node c.loop-node-test.true, ap length e.names, length-append (vec_items c.loop-node.names) (copies x), e.name-cap),

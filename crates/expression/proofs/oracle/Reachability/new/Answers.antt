@@ -9,7 +9,7 @@ loop-k-init c = through-none c.args.edges.now c.direct-rows.result c.direct-rows
 
 pub loop-k-preserved : goal.loop-k-preserved
 loop-k-preserved c =
-    through-more c.args.edges.now c.loop-k.k c.loop-k.rows c.join-through.new.rows c.join-through.ensures c.loop-k.invariant
+    through-more c.args.edges.now c.loop-k.k c.loop-k.rows c.join_through.new.rows c.join_through.ensures c.loop-k.invariant
 
 pub returns : goal.returns
 returns c =

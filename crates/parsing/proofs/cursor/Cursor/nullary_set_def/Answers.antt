@@ -26,12 +26,12 @@ pub returns : goal.returns
 returns c =
     let s = c.args.self.now in
     let t = s.text.now in
-    let k1 = c.expect-char.ensures.kept in
-    let k2 = kept_then k1 c.take-nothing.ensures.kept in
-    let k3 = kept_then k2 c.expect-char-2.ensures.kept in
-    let got = nullary-got t c.args.set c.args.start (got_same c.expect-char.ensures.ran) (got_same (re-at (view c.expect-char.new.self) nothing_at (same_text k1) c.take-nothing.ensures.ran))
-    (got_same (re-at (view c.take-nothing.new.self) (λ x. expect x 41 ExpectedCloseParenthesis) (same_text k2) c.expect-char-2.ensures.ran)) in
-    let at = between c.args.start c.expect-char-2.new.self.pos in
+    let k1 = c.expect_char.ensures.kept in
+    let k2 = kept_then k1 c.take_nothing.ensures.kept in
+    let k3 = kept_then k2 c.expect_char-2.ensures.kept in
+    let got = nullary-got t c.args.set c.args.start (got_same c.expect_char.ensures.ran) (got_same (re-at (view c.expect_char.new.self) nothing_at (same_text k1) c.take_nothing.ensures.ran))
+    (got_same (re-at (view c.take_nothing.new.self) (λ x. expect x 41 ExpectedCloseParenthesis) (same_text k2) c.expect_char-2.ensures.ran)) in
+    let at = between c.args.start c.expect_char-2.new.self.pos in
     let of : Nullary → List ParsedNode = λ x. nodes_of (nullary_leaf x at) in
     let one : ParsedLeaf → List ParsedNode = λ l. node.Set l ∷ [] in
     let leaf : one c.match-set.leaf ≡ of c.args.set = elim c.match-set.branch [
@@ -40,6 +40,6 @@ returns c =
       | in-None w ↦ ap one w.leaf-is ∙ ap of (sym w.in-None.is)
     ] in
     record {
-      read = tree-ok (λ x. nullary_at x c.args.set c.args.start) got (c.push-reserved.ensures.items ∙ ap (λ (l : List ParsedNode). l ++ one c.match-set.leaf) (same_nodes k3) ∙ ap (λ (l : List ParsedNode). held s ++ l) leaf);
+      read = tree-ok (λ x. nullary_at x c.args.set c.args.start) got (c.push_reserved.ensures.items ∙ ap (λ (l : List ParsedNode). l ++ one c.match-set.leaf) (same_nodes k3) ∙ ap (λ (l : List ParsedNode). held s ++ l) leaf);
       moved = search rules;
     }

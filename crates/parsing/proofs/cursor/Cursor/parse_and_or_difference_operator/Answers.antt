@@ -10,6 +10,6 @@ pub returns : goal.returns
 unfolding and_sign
 returns c =
     let s = view c.args.self.now in
-    let q = c.blanks-end-start.result in
-    let e = ap (λ (x : Option Sign). sign_for q x s.at) c.and-sign-at.ensures.value ∙ ap (λ (p : ℕ). sign_for p (and_sign_at s.text p) s.at) c.blanks-end-start.ensures.value in
-    record { ran = ran-same (got-by e (got_same c.take-sign.ensures.ran)); kept = c.take-sign.ensures.kept; moved = c.take-sign.ensures.moved; stays = c.take-sign.ensures.stays }
+    let q = c.blanks_end-start.result in
+    let e = ap (λ (x : Option Sign). sign_for q x s.at) c.and_sign_at.ensures.value ∙ ap (λ (p : ℕ). sign_for p (and_sign_at s.text p) s.at) c.blanks_end-start.ensures.value in
+    record { ran = ran-same (got-by e (got_same c.take_sign.ensures.ran)); kept = c.take_sign.ensures.kept; moved = c.take_sign.ensures.moved; stays = c.take_sign.ensures.stays }

@@ -13,30 +13,30 @@ returns-in-err-name c = record {
   moved = search rules;
 }
 
-pub returns-then-not-is-glob : goal.returns-then-not-is-glob
-returns-then-not-is-glob c =
+pub returns-then-not-is_glob : goal.returns-then-not-is_glob
+returns-then-not-is_glob c =
     let h = c.in-ok-name.ensures in
     let w = some_read h.ran in
     let t = c.args.self.now.text.now in
-    let sp = c.parse-matcher-text.new.self.space.now in
+    let sp = c.parse_matcher_text.new.self.space.now in
     let n = c.in-ok-name.name in
     let bytes = ap (λ (x : List ℕ). bytes_at x sp n) (same_text h.kept) ∙ same_bytes t sp n (text_at t (view c.args.self.now).at).value w.0 h.bytes w.1.value w.2 in
-    let fine = c.if-not-is-glob.ensures ∙ ap (λ (b : List ℕ). is_some (items_of b)) bytes in
+    let fine = c.if-not-is_glob.ensures ∙ ap (λ (b : List ℕ). is_some (items_of b)) bytes in
     record {
       ran = matched-bad c.args.self.now.text.now c.args.kind w.0 w.1 c.in-Glob.is fine c.report.ensures.ran;
       kept = search rules;
       moved = search rules;
     }
 
-pub returns-else-not-is-glob : goal.returns-else-not-is-glob
-returns-else-not-is-glob c =
+pub returns-else-not-is_glob : goal.returns-else-not-is_glob
+returns-else-not-is_glob c =
     let h = c.in-ok-name.ensures in
     let w = some_read h.ran in
     let t = c.args.self.now.text.now in
-    let sp = c.parse-matcher-text.new.self.space.now in
+    let sp = c.parse_matcher_text.new.self.space.now in
     let n = c.in-ok-name.name in
     let bytes = ap (λ (x : List ℕ). bytes_at x sp n) (same_text h.kept) ∙ same_bytes t sp n (text_at t (view c.args.self.now).at).value w.0 h.bytes w.1.value w.2 in
-    let fine = c.if-not-is-glob.ensures ∙ ap (λ (b : List ℕ). is_some (items_of b)) bytes in
+    let fine = c.if-not-is_glob.ensures ∙ ap (λ (b : List ℕ). is_some (items_of b)) bytes in
     record {
       ran = matched-glob c.args.self.now.text.now c.args.kind w.0 w.1 c.in-Glob.is fine w.2;
       kept = search rules;

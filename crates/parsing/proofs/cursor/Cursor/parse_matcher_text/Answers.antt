@@ -12,7 +12,7 @@ use Rattle.parsing.proofs.cursor.Cursor.parse_matcher_text.Goals as goal
 pub unreachable-requires : goal.unreachable-requires
 unreachable-requires c =
     let s = view c.args.self.now in
-    read_some s.text s.at.pos s.at.count s.at.used (has_room_lem c.args.self.now c.requires (omega arith)) c.in-default.ensures.read
+    read_some s.text s.at.pos s.at.count s.at.used (has_room_lem c.args.self.now c.requires (omega arith)) c.in_default.ensures.read
 
 pub returns-then-read-start : goal.returns-then-read-start
 unfolding text_at
@@ -20,7 +20,7 @@ returns-then-read-start c =
     let s = view c.args.self.now in
     let t = s.text in
     let p = s.at.pos in
-    let sp = c.parse-string-read.new.space in
+    let sp = c.parse_string-read.new.space in
     let ok = has_room_lem c.args.self.now c.requires (omega arith) in
     let h = c.in-Some.ensures in
     let is = read_all t p s.at.count s.at.used ok c.in-Some.read h.read in
@@ -33,7 +33,7 @@ returns-then-read-start c =
     let em = name-empty t p s.at.used (sym end ∙ c.if-read-start.true) in
     record {
       bytes = subst (λ (x : Option Called). Spelt t sp (Ok x)) em (empty-spelt t sp p c.requires.within);
-      ran = record { state = text-state s c.in-Some.read c.or-self.result c.parse-string-read.new.reports sp _ ok is c.or-self.ensures table h.space (ap (λ (r : MutBor (List Report)). r.ghost_name) same-table); result = ap (λ (x : Option Called). Ok (name_only x)) em };
+      ran = record { state = text-state s c.in-Some.read c.or-self.result c.parse_string-read.new.reports sp _ ok is c.or-self.ensures table h.space (ap (λ (r : MutBor (List Report)). r.ghost_name) same-table); result = ap (λ (x : Option Called). Ok (name_only x)) em };
       kept = search rules;
       moved = record {
         text = refl;
@@ -53,7 +53,7 @@ returns c =
     let s = view c.args.self.now in
     let t = s.text in
     let p = s.at.pos in
-    let sp = c.parse-string-read.new.space in
+    let sp = c.parse_string-read.new.space in
     let ok = has_room_lem c.args.self.now c.requires (omega arith) in
     let h = c.in-Some.ensures in
     let is = read_all t p s.at.count s.at.used ok c.in-Some.read h.read in
@@ -66,7 +66,7 @@ returns c =
     let em = name-full t p s.at.used (λ e. c.if-read-start.false (end ∙ e)) in
     record {
       bytes = subst (λ (x : Option Called). Spelt t sp (Ok x)) em (full-spelt t sp p s.at.count s.at.used c.in-Some.read c.requires.within is h.meant);
-      ran = record { state = text-state s c.in-Some.read c.or-self.result c.parse-string-read.new.reports sp _ ok is c.or-self.ensures table h.space (ap (λ (r : MutBor (List Report)). r.ghost_name) same-table); result = ap Ok (ap (λ (r : NameRead). r.name) is ∙ only-name t (name_at t p s.at.used).out (name_at t p s.at.used).name) ∙ ap (λ (x : Option Called). Ok (name_only x)) em };
+      ran = record { state = text-state s c.in-Some.read c.or-self.result c.parse_string-read.new.reports sp _ ok is c.or-self.ensures table h.space (ap (λ (r : MutBor (List Report)). r.ghost_name) same-table); result = ap Ok (ap (λ (r : NameRead). r.name) is ∙ only-name t (name_at t p s.at.used).out (name_at t p s.at.used).name) ∙ ap (λ (x : Option Called). Ok (name_only x)) em };
       kept = search rules;
       moved = record {
         text = refl;

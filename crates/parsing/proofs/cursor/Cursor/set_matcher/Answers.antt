@@ -12,11 +12,11 @@ unfolding argument_at
 returns-in-Regex c =
     let s = view c.args.self.now in
     let t = s.text in
-    let m = view c.skip-blanks.new.self in
-    let te : m.text ≡ t = ap (λ (r : Bor (List ℕ)). r.now) c.skip-blanks.ensures.kept.text in
+    let m = view c.skip_blanks.new.self in
+    let te : m.text ≡ t = ap (λ (r : Bor (List ℕ)). r.now) c.skip_blanks.ensures.kept.text in
     let mk = c.in-Regex.ensures.value ∙ ap (λ (x : List ℕ). mark_at x m.at.pos) te in
     record {
-      ran = ran-by matcher_only (got-then (moved (skip t s.at.pos)) _ (got_same c.skip-blanks.ensures.ran) (got-by (ap (λ (k : Mark). argument_for t c.args.usual k m.at) mk) (got-halt m _))) refl;
+      ran = ran-by matcher_only (got-then (moved (skip t s.at.pos)) _ (got_same c.skip_blanks.ensures.ran) (got-by (ap (λ (k : Mark). argument_for t c.args.usual k m.at) mk) (got-halt m _))) refl;
       kept = search rules;
       moved = search rules;
     }
@@ -26,12 +26,12 @@ unfolding argument_at
 returns-in-Marked c =
     let s = view c.args.self.now in
     let t = s.text in
-    let m = view c.skip-blanks.new.self in
-    let te : m.text ≡ t = ap (λ (r : Bor (List ℕ)). r.now) c.skip-blanks.ensures.kept.text in
+    let m = view c.skip_blanks.new.self in
+    let te : m.text ≡ t = ap (λ (r : Bor (List ℕ)). r.now) c.skip_blanks.ensures.kept.text in
     let mk = c.in-Marked.ensures.value ∙ ap (λ (x : List ℕ). mark_at x m.at.pos) te in
-    let g = got-ok matcher_only (re (λ x. matcher_at x c.in-Marked.kind) te c.parse-matcher.ensures.ran) in
+    let g = got-ok matcher_only (re (λ x. matcher_at x c.in-Marked.kind) te c.parse_matcher.ensures.ran) in
     record {
-      ran = ran-by matcher_only (got-then (moved (skip t s.at.pos)) _ (got_same c.skip-blanks.ensures.ran)
+      ran = ran-by matcher_only (got-then (moved (skip t s.at.pos)) _ (got_same c.skip_blanks.ensures.ran)
           (got-by (ap (λ (k : Mark). argument_for t c.args.usual k m.at) mk)
           (got-then (moved (m.at.pos + 1)) _ (got-moved m (m.at.pos + 1)) g.1))) (ap Ok g.2);
       kept = search rules;
@@ -43,12 +43,12 @@ unfolding argument_at
 returns-in-Unmarked c =
     let s = view c.args.self.now in
     let t = s.text in
-    let m = view c.skip-blanks.new.self in
-    let te : m.text ≡ t = ap (λ (r : Bor (List ℕ)). r.now) c.skip-blanks.ensures.kept.text in
+    let m = view c.skip_blanks.new.self in
+    let te : m.text ≡ t = ap (λ (r : Bor (List ℕ)). r.now) c.skip_blanks.ensures.kept.text in
     let mk = c.in-Unmarked.ensures.value ∙ ap (λ (x : List ℕ). mark_at x m.at.pos) te in
-    let g = got-ok matcher_only (re (λ x. matcher_at x c.args.usual) te c.parse-matcher-in-Unmarked.ensures.ran) in
+    let g = got-ok matcher_only (re (λ x. matcher_at x c.args.usual) te c.parse_matcher-in-Unmarked.ensures.ran) in
     record {
-      ran = ran-by matcher_only (got-then (moved (skip t s.at.pos)) _ (got_same c.skip-blanks.ensures.ran)
+      ran = ran-by matcher_only (got-then (moved (skip t s.at.pos)) _ (got_same c.skip_blanks.ensures.ran)
           (got-by (ap (λ (k : Mark). argument_for t c.args.usual k m.at) mk) g.1)) (ap Ok g.2);
       kept = search rules;
       moved = search rules;

@@ -28,13 +28,13 @@ returns-in-err-matcher c =
     let p = err_from_is_err_and c.from-residual.result c.from-residual.ensures.1 in
     let s = c.args.self.now in
     let t = s.text.now in
-    let k1 = c.expect-char.ensures.kept in
-    let a = view c.expect-char.new.self in
-    let b = view c.set-matcher.new.self in
-    let u = c.default-matcher.ensures in
-    let g = got-by (ap (λ (k : MatchKind). argument_at t k a.at) u) (got-err matcher_only (re-at a (λ x. argument_at x c.default-matcher.result) (same_text k1) c.in-err-matcher.ensures.ran)) in
+    let k1 = c.expect_char.ensures.kept in
+    let a = view c.expect_char.new.self in
+    let b = view c.set_matcher.new.self in
+    let u = c.default_matcher.ensures in
+    let g = got-by (ap (λ (k : MatchKind). argument_at t k a.at) u) (got-err matcher_only (re-at a (λ x. argument_at x c.default_matcher.result) (same_text k1) c.in-err-matcher.ensures.ran)) in
     record {
-      read = rw (p.1, p.2) (tree-err (λ x. unary_at x c.args.predicate) (unary-stop t c.args.predicate (got_same c.expect-char.ensures.ran) g));
+      read = rw (p.1, p.2) (tree-err (λ x. unary_at x c.args.predicate) (unary-stop t c.args.predicate (got_same c.expect_char.ensures.ran) g));
       moved = search rules;
     }
 
@@ -42,41 +42,41 @@ pub returns-in-Some : goal.returns-in-Some
 returns-in-Some c =
     let s = c.args.self.now in
     let t = s.text.now in
-    let k1 = c.expect-char.ensures.kept in
-    let a = view c.expect-char.new.self in
-    let b = view c.set-matcher.new.self in
-    let u = c.default-matcher.ensures in
-    let k2 = kept_then k1 c.set-matcher.ensures.kept in
-    let k3 = kept_then k2 c.recover-unexpected-comma.ensures.kept in
-    let k4 = kept_then k3 c.expect-char-2.ensures.kept in
-    let closed = closed-got t (got_same (re-at b comma_at (same_text k2) c.recover-unexpected-comma.ensures.ran)) (got_same (re-at (view c.recover-unexpected-comma.new.self) (λ x. expect x 41 ExpectedCloseParenthesis) (same_text k3) c.expect-char-2.ensures.ran)) in
-    let read = re-at a (λ x. argument_at x c.default-matcher.result) (same_text k1) c.in-ok-matcher.ensures.ran in
-    let m = matched-some (subst (λ (x : Option NameMatcher). Ran matcher_only a (argument_at t c.default-matcher.result a.at) b (Ok x)) c.in-Some.is read) in
+    let k1 = c.expect_char.ensures.kept in
+    let a = view c.expect_char.new.self in
+    let b = view c.set_matcher.new.self in
+    let u = c.default_matcher.ensures in
+    let k2 = kept_then k1 c.set_matcher.ensures.kept in
+    let k3 = kept_then k2 c.recover_unexpected_comma.ensures.kept in
+    let k4 = kept_then k3 c.expect_char-2.ensures.kept in
+    let closed = closed-got t (got_same (re-at b comma_at (same_text k2) c.recover_unexpected_comma.ensures.ran)) (got_same (re-at (view c.recover_unexpected_comma.new.self) (λ x. expect x 41 ExpectedCloseParenthesis) (same_text k3) c.expect_char-2.ensures.ran)) in
+    let read = re-at a (λ x. argument_at x c.default_matcher.result) (same_text k1) c.in-ok-matcher.ensures.ran in
+    let m = matched-some (subst (λ (x : Option NameMatcher). Ran matcher_only a (argument_at t c.default_matcher.result a.at) b (Ok x)) c.in-Some.is read) in
     let g = got-by (ap (λ (k : MatchKind). argument_at t k a.at) u) m.1 in
     let at = between a.at.pos b.at.pos in
     let one : NameMatcher → List ParsedNode = λ n. node.Set (parsed.Matched c.args.predicate n at) ∷ [] in
     record {
-      read = tree-ok (λ x. unary_at x c.args.predicate) (unary-got t c.args.predicate (got_same c.expect-char.ensures.ran) g closed)
-          (c.push-reserved.ensures.items ∙ ap (λ (l : List ParsedNode). l ++ one c.in-Some.matcher) (same_nodes k4) ∙ ap (λ (n : NameMatcher). held s ++ one n) m.2);
+      read = tree-ok (λ x. unary_at x c.args.predicate) (unary-got t c.args.predicate (got_same c.expect_char.ensures.ran) g closed)
+          (c.push_reserved.ensures.items ∙ ap (λ (l : List ParsedNode). l ++ one c.in-Some.matcher) (same_nodes k4) ∙ ap (λ (n : NameMatcher). held s ++ one n) m.2);
       moved = search rules;
     }
 
-pub returns-in-default : goal.returns-in-default
-returns-in-default c =
+pub returns-in_default : goal.returns-in_default
+returns-in_default c =
     let s = c.args.self.now in
     let t = s.text.now in
-    let k1 = c.expect-char.ensures.kept in
-    let a = view c.expect-char.new.self in
-    let b = view c.set-matcher.new.self in
-    let u = c.default-matcher.ensures in
-    let k2 = kept_then k1 c.set-matcher.ensures.kept in
-    let k3 = kept_then k2 c.recover-unexpected-comma.ensures.kept in
-    let k4 = kept_then k3 c.expect-char-2.ensures.kept in
-    let closed = closed-got t (got_same (re-at b comma_at (same_text k2) c.recover-unexpected-comma.ensures.ran)) (got_same (re-at (view c.recover-unexpected-comma.new.self) (λ x. expect x 41 ExpectedCloseParenthesis) (same_text k3) c.expect-char-2.ensures.ran)) in
-    let read = re-at a (λ x. argument_at x c.default-matcher.result) (same_text k1) c.in-ok-matcher.ensures.ran in
-    let m = matched-none (subst (λ (x : Option NameMatcher). Ran matcher_only a (argument_at t c.default-matcher.result a.at) b (Ok x)) c.in-default.is read) in
+    let k1 = c.expect_char.ensures.kept in
+    let a = view c.expect_char.new.self in
+    let b = view c.set_matcher.new.self in
+    let u = c.default_matcher.ensures in
+    let k2 = kept_then k1 c.set_matcher.ensures.kept in
+    let k3 = kept_then k2 c.recover_unexpected_comma.ensures.kept in
+    let k4 = kept_then k3 c.expect_char-2.ensures.kept in
+    let closed = closed-got t (got_same (re-at b comma_at (same_text k2) c.recover_unexpected_comma.ensures.ran)) (got_same (re-at (view c.recover_unexpected_comma.new.self) (λ x. expect x 41 ExpectedCloseParenthesis) (same_text k3) c.expect_char-2.ensures.ran)) in
+    let read = re-at a (λ x. argument_at x c.default_matcher.result) (same_text k1) c.in-ok-matcher.ensures.ran in
+    let m = matched-none (subst (λ (x : Option NameMatcher). Ran matcher_only a (argument_at t c.default_matcher.result a.at) b (Ok x)) c.in_default.is read) in
     let g = got-by (ap (λ (k : MatchKind). argument_at t k a.at) u) m in
     record {
-      read = tree-ok (λ x. unary_at x c.args.predicate) (unary-got t c.args.predicate (got_same c.expect-char.ensures.ran) g closed) (same_nodes k4 ∙ sym (append-nil (held s)));
+      read = tree-ok (λ x. unary_at x c.args.predicate) (unary-got t c.args.predicate (got_same c.expect_char.ensures.ran) g closed) (same_nodes k4 ∙ sym (append-nil (held s)));
       moved = search rules;
     }
