@@ -10,13 +10,13 @@ returns-then-next-text c = record { value = digits-past _ _ _ _ c.if-next-text.t
 pub returns-then-d : goal.returns-then-d
 returns-then-d c = record { value = digits-stop _ _ _ _ (cc) ∙ c.loop-left.invariant.2; within = c.loop-left.invariant.0 }
 
-pub overflow-mul-code : goal.overflow-mul-code
-overflow-mul-code c =
+pub overflow_mul-code : goal.overflow_mul-code
+overflow_mul-code c =
     let h : c.loop-left.code < 1048576 = fits _ _ (omega arith) c.loop-left.invariant.1 in
     search rules
 
-pub overflow-add-code : goal.overflow-add-code
-overflow-add-code c =
+pub overflow_add-code : goal.overflow_add-code
+overflow_add-code c =
     let h : c.loop-left.code < 1048576 = fits _ _ (omega arith) c.loop-left.invariant.1 in
     search rules
 

@@ -13,13 +13,13 @@ returns-then-at-text c =
 pub returns-then-d-eq6 : goal.returns-then-d-eq6
 returns-then-d-eq6 c =
     elim c.then-d-eq6.branch [
-      | then-d-eq6-via-then-d-eq6 w ↦ no_digit _ c.parse_hex-d.result w.if-d-eq6.true ∙ opened _ _ c.if-text_at-ne123.false c.parse_hex-d.ensures.value
-      | then-d-eq6-via-else-d-eq6+then-d-text w ↦ no-close _ c.parse_hex-d.result (past _ _ w.if-d-text.true (omega arith)) ∙ opened _ _ c.if-text_at-ne123.false c.parse_hex-d.ensures.value
-      | then-d-eq6-via-else-d-eq6+else-d-text+then-text-d-ne125 w ↦ no-close _ c.parse_hex-d.result w.if-text-d-ne125.true ∙ opened _ _ c.if-text_at-ne123.false c.parse_hex-d.ensures.value
+      | then-d-eq6-via-then-d-eq6 w ↦ no_digit _ c.parse_hex-d.result w.if-d-eq6.true ∙ opened _ _ c.if-text-at-ne123.false c.parse_hex-d.ensures.value
+      | then-d-eq6-via-else-d-eq6+then-d-text w ↦ no-close _ c.parse_hex-d.result (past _ _ w.if-d-text.true (omega arith)) ∙ opened _ _ c.if-text-at-ne123.false c.parse_hex-d.ensures.value
+      | then-d-eq6-via-else-d-eq6+else-d-text+then-text-d-ne125 w ↦ no-close _ c.parse_hex-d.result w.if-text-d-ne125.true ∙ opened _ _ c.if-text-at-ne123.false c.parse_hex-d.ensures.value
     ]
 
 pub returns-in-Some : goal.returns-in-Some
-returns-in-Some c = closes _ c.parse_hex-d.result c.if-d-eq6.false c.if-text-d-ne125.false c.in-Some.ensures.value.0 ∙ opened _ _ c.if-text_at-ne123.false c.parse_hex-d.ensures.value
+returns-in-Some c = closes _ c.parse_hex-d.result c.if-d-eq6.false c.if-text-d-ne125.false c.in-Some.ensures.value.0 ∙ opened _ _ c.if-text-at-ne123.false c.parse_hex-d.ensures.value
 
 pub returns-in-None : goal.returns-in-None
-returns-in-None c = no-scalar _ c.parse_hex-d.result c.in-None.ensures.value ∙ opened _ _ c.if-text_at-ne123.false c.parse_hex-d.ensures.value
+returns-in-None c = no-scalar _ c.parse_hex-d.result c.in-None.ensures.value ∙ opened _ _ c.if-text-at-ne123.false c.parse_hex-d.ensures.value

@@ -3,6 +3,6 @@ use Rattle.parsing.specs.Text.{begins_at, whites_at}
 use Rattle.parsing.specs.Reading.{platform_of}
 use Rattle.parsing.proofs.cursor.platform_at.Goals as goal
 
-pub returns-in-err-part : goal.returns-in-err-part
+pub returns-in_err-part : goal.returns-in_err-part
 unfolding platform_of begins_at whites_at
-returns-in-err-part c = c.from-residual.ensures ∙ ap (λ (o : Option (List ℕ)). platform_of (unwrap_or o [])) c.in-err-part.ensures.bytes
+returns-in_err-part c = c.from_residual.ensures ∙ ap (λ (o : Option (List ℕ)). platform_of (unwrap_or o [])) c.in_err-part.ensures.bytes

@@ -17,15 +17,15 @@ use Rattle.parsing.proofs.Chains.{ToGo, togo-start, togo-end, togo-stop, togo-br
 use Rattle.parsing.proofs.Basics.{under-zero, under_more, basic-none, basic-set, basic-not, basic-group, basic-misplaced}
 use Rattle.parsing.proofs.cursor.Cursor.+parse_and_or_difference_expr_parse_basic_expr_parse_expr_parse_expr_not_parse_parentheses_expr.Goals as goal
 
-pub parse_and_or_difference_expr-returns-in-err-parse_basic_expr : goal.parse_and_or_difference_expr-returns-in-err-parse_basic_expr
-parse_and_or_difference_expr-returns-in-err-parse_basic_expr t c =
-    let p = err_from_is_err_and c.from-residual.result c.from-residual.ensures.1 in
+pub parse_and_or_difference_expr-returns-in_err-parse_basic_expr : goal.parse_and_or_difference_expr-returns-in_err-parse_basic_expr
+parse_and_or_difference_expr-returns-in_err-parse_basic_expr t c =
+    let p = err_from_is_err_and c.from_residual.result c.from_residual.ensures.1 in
     let s = c.args.self.now in
     let text = s.text.now in
     let sign = and_sign text in
     let one = basic_at text c.args.free in
     record {
-      read = rw (p.1, p.2) (tree-err (λ x. and_at x c.args.free) (chain-stop text sign one (halted s c.parse_basic_expr.new.self (λ x. basic_at x c.args.free) refl c.in-err-parse_basic_expr.ensures.read)));
+      read = rw (p.1, p.2) (tree-err (λ x. and_at x c.args.free) (chain-stop text sign one (halted s c.parse_basic_expr.new.self (λ x. basic_at x c.args.free) refl c.in_err-parse_basic_expr.ensures.read)));
       moved = search rules;
     }
 
@@ -35,21 +35,21 @@ parse_and_or_difference_expr-loop-operator-init t c =
     let text = from.text.now in
     (search rules, togo-start text (and_sign text) (basic_at text c.args.free) from)
 
-pub parse_and_or_difference_expr-returns-in-err-operator : goal.parse_and_or_difference_expr-returns-in-err-operator
-parse_and_or_difference_expr-returns-in-err-operator t c =
-    let p = err_from_is_err_and c.from-residual-in-err-operator.result c.from-residual-in-err-operator.ensures.1 in
+pub parse_and_or_difference_expr-returns-in_err-operator : goal.parse_and_or_difference_expr-returns-in_err-operator
+parse_and_or_difference_expr-returns-in_err-operator t c =
+    let p = err_from_is_err_and c.from_residual-in_err-operator.result c.from_residual-in_err-operator.ensures.1 in
     let s = c.args.self.now in
     let text = s.text.now in
     let sign = and_sign text in
     let one = basic_at text c.args.free in
-    let first = grown (λ x. basic_at x c.args.free) refl c.in-ok-parse_basic_expr.ensures.read in
+    let first = grown (λ x. basic_at x c.args.free) refl c.in_ok-parse_basic_expr.ensures.read in
     let from = c.parse_basic_expr.new.self in
     let m = c.loop-operator.self in
     let a = c.parse_and_or_difference_operator.new.self in
-    let te : from.text.now ≡ text = c.in-ok-parse_basic_expr.ensures.moved.text in
+    let te : from.text.now ≡ text = c.in_ok-parse_basic_expr.ensures.moved.text in
     let tm : m.text.now ≡ text = c.loop-operator.invariant.0.text ∙ te in
     let w = subst (λ (x : List ℕ). ToGo x (and_sign x) (basic_at x c.args.free) from m) te c.loop-operator.invariant.1 in
-    let v = c.in-err-operator.ensures in
+    let v = c.in_err-operator.ensures in
     let g = got_same (re-at (view m) and_sign tm v.ran) in
     let lt : m.pos < length text = omega (arith, v.moved.on, v.moved.within, ap length tm) in
     record {
@@ -57,26 +57,26 @@ parse_and_or_difference_expr-returns-in-err-operator t c =
       moved = search rules;
     }
 
-pub parse_and_or_difference_expr-returns-in-err-parse_basic_expr-2 : goal.parse_and_or_difference_expr-returns-in-err-parse_basic_expr-2
-parse_and_or_difference_expr-returns-in-err-parse_basic_expr-2 t c =
-    let p = err_from_is_err_and c.from-residual-in-err-parse_basic_expr-2.result c.from-residual-in-err-parse_basic_expr-2.ensures.1 in
+pub parse_and_or_difference_expr-returns-in_err-parse_basic_expr-2 : goal.parse_and_or_difference_expr-returns-in_err-parse_basic_expr-2
+parse_and_or_difference_expr-returns-in_err-parse_basic_expr-2 t c =
+    let p = err_from_is_err_and c.from_residual-in_err-parse_basic_expr-2.result c.from_residual-in_err-parse_basic_expr-2.ensures.1 in
     let s = c.args.self.now in
     let text = s.text.now in
     let sign = and_sign text in
     let one = basic_at text c.args.free in
-    let first = grown (λ x. basic_at x c.args.free) refl c.in-ok-parse_basic_expr.ensures.read in
+    let first = grown (λ x. basic_at x c.args.free) refl c.in_ok-parse_basic_expr.ensures.read in
     let from = c.parse_basic_expr.new.self in
     let m = c.loop-operator.self in
     let a = c.parse_and_or_difference_operator.new.self in
-    let te : from.text.now ≡ text = c.in-ok-parse_basic_expr.ensures.moved.text in
+    let te : from.text.now ≡ text = c.in_ok-parse_basic_expr.ensures.moved.text in
     let tm : m.text.now ≡ text = c.loop-operator.invariant.0.text ∙ te in
     let w = subst (λ (x : List ℕ). ToGo x (and_sign x) (basic_at x c.args.free) from m) te c.loop-operator.invariant.1 in
-    let v = c.in-ok-operator.ensures in
+    let v = c.in_ok-operator.ensures in
     let b = c.parse_basic_expr-in-Some.new.self in
     let g = subst (λ (o : Option Operator). Got (view m) (sign (view m).at) (view a) (Ok o)) c.in-Some.is (got_same (re-at (view m) and_sign tm v.ran)) in
     let move : Moved 1 1 0 m a = (subst (λ (o : Option Operator). Taken (Ok o) m a) c.in-Some.is v.moved).0 in
     let lt : m.pos < length text = omega (arith, move.on, move.within, ap length tm) in
-    let h = halted a b (λ x. basic_at x c.args.free) (same_text v.kept ∙ tm) c.in-err-parse_basic_expr-2.ensures.read in
+    let h = halted a b (λ x. basic_at x c.args.free) (same_text v.kept ∙ tm) c.in_err-parse_basic_expr-2.ensures.read in
     record {
       read = rw (p.1, p.2) (tree-err (λ x. and_at x c.args.free) (chain-then text sign one first.got (togo-break text sign one a b w g h lt first.tree)));
       moved = search rules;
@@ -91,10 +91,10 @@ parse_and_or_difference_expr-loop-operator-preserved t c =
     let m = c.loop-operator.self in
     let a = c.parse_and_or_difference_operator.new.self in
     let tm : m.text.now ≡ text = c.loop-operator.invariant.0.text in
-    let v = c.in-ok-operator.ensures in
+    let v = c.in_ok-operator.ensures in
     let g = subst (λ (o : Option Operator). Got (view m) (sign (view m).at) (view a) (Ok o)) c.in-Some.is (got_same (re-at (view m) and_sign tm v.ran)) in
     let move = subst (λ (o : Option Operator). Taken (Ok o) m a) c.in-Some.is v.moved in
-    let h = c.in-ok-parse_basic_expr-2.ensures in
+    let h = c.in_ok-parse_basic_expr-2.ensures in
     let k = grown (λ x. basic_at x c.args.free) (same_text v.kept ∙ tm) h.read in
     let lt : m.pos < length text = omega (arith, move.0.on, move.0.within, ap length tm) in
     let on : m.pos < c.parse_basic_expr-in-Some.new.self.pos = omega (arith, move.0.on, h.moved.on) in (
@@ -108,14 +108,14 @@ parse_and_or_difference_expr-returns t c =
     let text = s.text.now in
     let sign = and_sign text in
     let one = basic_at text c.args.free in
-    let first = grown (λ x. basic_at x c.args.free) refl c.in-ok-parse_basic_expr.ensures.read in
+    let first = grown (λ x. basic_at x c.args.free) refl c.in_ok-parse_basic_expr.ensures.read in
     let from = c.parse_basic_expr.new.self in
     let m = c.loop-operator.self in
     let a = c.parse_and_or_difference_operator.new.self in
-    let te : from.text.now ≡ text = c.in-ok-parse_basic_expr.ensures.moved.text in
+    let te : from.text.now ≡ text = c.in_ok-parse_basic_expr.ensures.moved.text in
     let tm : m.text.now ≡ text = c.loop-operator.invariant.0.text ∙ te in
     let w = subst (λ (x : List ℕ). ToGo x (and_sign x) (basic_at x c.args.free) from m) te c.loop-operator.invariant.1 in
-    let v = c.in-ok-operator.ensures in
+    let v = c.in_ok-operator.ensures in
     let g = subst (λ (o : Option Operator). Got (view m) (sign (view m).at) (view a) (Ok o)) c.in_default.is (got_same (re-at (view m) and_sign tm v.ran)) in
     let move : Moved 0 0 0 m a = subst (λ (o : Option Operator). Taken (Ok o) m a) c.in_default.is v.moved in
     let e = togo-end text sign one a w g (v.stays (ap (λ (o : Option Operator). Ok o) c.in_default.is)) (same_nodes v.kept) first.tree in
@@ -137,9 +137,9 @@ parse_basic_expr-returns-in_default t c =
       moved = search rules;
     }
 
-pub parse_basic_expr-returns-in-err-count_part : goal.parse_basic_expr-returns-in-err-count_part
-parse_basic_expr-returns-in-err-count_part t c =
-    let f = err_from_is_err_and c.from-residual.result c.from-residual.ensures.1 in
+pub parse_basic_expr-returns-in_err-count_part : goal.parse_basic_expr-returns-in_err-count_part
+parse_basic_expr-returns-in_err-count_part t c =
+    let f = err_from_is_err_and c.from_residual.result c.from_residual.ensures.1 in
     let s = c.args.self.now in
     let text = s.text.now in
     let p = c.blanks_end-start.result in
@@ -148,13 +148,13 @@ parse_basic_expr-returns-in-err-count_part t c =
     let h = c.in-Some.ensures.value in
     let rd = λ (x : List ℕ). basic_at x c.args.free in
     record {
-      read = rw (f.1, f.2) (tree-err rd (basic-set text c.args.free (view s) p at o h c.in-Set.set c.in-Set.is (got-stop (part p) _ (got_same c.in-err-count_part.ensures.ran))));
+      read = rw (f.1, f.2) (tree-err rd (basic-set text c.args.free (view s) p at o h c.in-Set.set c.in-Set.is (got-stop (part p) _ (got_same c.in_err-count_part.ensures.ran))));
       moved = search rules;
     }
 
-pub parse_basic_expr-returns-in-err-parse_set_def : goal.parse_basic_expr-returns-in-err-parse_set_def
-parse_basic_expr-returns-in-err-parse_set_def t c =
-    let f = err_from_is_err_and c.from-residual-in-err-parse_set_def.result c.from-residual-in-err-parse_set_def.ensures.1 in
+pub parse_basic_expr-returns-in_err-parse_set_def : goal.parse_basic_expr-returns-in_err-parse_set_def
+parse_basic_expr-returns-in_err-parse_set_def t c =
+    let f = err_from_is_err_and c.from_residual-in_err-parse_set_def.result c.from_residual-in_err-parse_set_def.ensures.1 in
     let s = c.args.self.now in
     let text = s.text.now in
     let p = c.blanks_end-start.result in
@@ -163,15 +163,15 @@ parse_basic_expr-returns-in-err-parse_set_def t c =
     let h = c.in-Some.ensures.value in
     let rd = λ (x : List ℕ). basic_at x c.args.free in
     let n = c.in-Set.set in
-    let v = c.in-ok-count_part.ensures in
-    let g = halted c.count_part.new.self c.parse_set_def.new.self (λ x. set_at x p n) (same_text v.kept) c.in-err-parse_set_def.ensures.read in
+    let v = c.in_ok-count_part.ensures in
+    let g = halted c.count_part.new.self c.parse_set_def.new.self (λ x. set_at x p n) (same_text v.kept) c.in_err-parse_set_def.ensures.read in
     record {
       read = rw (f.1, f.2) (tree-err rd (basic-set text c.args.free (view s) p at o h n c.in-Set.is (got-then (part p) (λ _. set_at text p n) (got_same v.ran) g)));
       moved = search rules;
     }
 
-pub parse_basic_expr-returns-in-ok-parse_set_def : goal.parse_basic_expr-returns-in-ok-parse_set_def
-parse_basic_expr-returns-in-ok-parse_set_def t c =
+pub parse_basic_expr-returns-in_ok-parse_set_def : goal.parse_basic_expr-returns-in_ok-parse_set_def
+parse_basic_expr-returns-in_ok-parse_set_def t c =
     let s = c.args.self.now in
     let text = s.text.now in
     let p = c.blanks_end-start.result in
@@ -180,16 +180,16 @@ parse_basic_expr-returns-in-ok-parse_set_def t c =
     let h = c.in-Some.ensures.value in
     let rd = λ (x : List ℕ). basic_at x c.args.free in
     let n = c.in-Set.set in
-    let v = c.in-ok-count_part.ensures in
-    let g = grown (λ x. set_at x p n) (same_text v.kept) c.in-ok-parse_set_def.ensures.read in
+    let v = c.in_ok-count_part.ensures in
+    let g = grown (λ x. set_at x p n) (same_text v.kept) c.in_ok-parse_set_def.ensures.read in
     record {
       read = tree-ok rd (basic-set text c.args.free (view s) p at o h n c.in-Set.is (got-then (part p) (λ _. set_at text p n) (got_same v.ran) g.got)) (g.nodes ∙ ap (λ (l : List ParsedNode). l ++ nodes_of g.tree) (same_nodes v.kept));
       moved = search rules;
     }
 
-pub parse_basic_expr-returns-in-err-parse_expr_not : goal.parse_basic_expr-returns-in-err-parse_expr_not
-parse_basic_expr-returns-in-err-parse_expr_not t c =
-    let f = err_from_is_err_and c.from-residual-in-err-parse_expr_not.result c.from-residual-in-err-parse_expr_not.ensures.1 in
+pub parse_basic_expr-returns-in_err-parse_expr_not : goal.parse_basic_expr-returns-in_err-parse_expr_not
+parse_basic_expr-returns-in_err-parse_expr_not t c =
+    let f = err_from_is_err_and c.from_residual-in_err-parse_expr_not.result c.from_residual-in_err-parse_expr_not.ensures.1 in
     let s = c.args.self.now in
     let text = s.text.now in
     let p = c.blanks_end-start.result in
@@ -198,12 +198,12 @@ parse_basic_expr-returns-in-err-parse_expr_not t c =
     let h = c.in-Some.ensures.value in
     let rd = λ (x : List ℕ). basic_at x c.args.free in
     record {
-      read = rw (f.1, f.2) (tree-err rd (basic-not text c.args.free (view s) p at o h c.in-Not.is (got-err nothing c.in-err-parse_expr_not.ensures.read.ran)));
+      read = rw (f.1, f.2) (tree-err rd (basic-not text c.args.free (view s) p at o h c.in-Not.is (got-err nothing c.in_err-parse_expr_not.ensures.read.ran)));
       moved = search rules;
     }
 
-pub parse_basic_expr-returns-in-ok-parse_expr_not : goal.parse_basic_expr-returns-in-ok-parse_expr_not
-parse_basic_expr-returns-in-ok-parse_expr_not t c =
+pub parse_basic_expr-returns-in_ok-parse_expr_not : goal.parse_basic_expr-returns-in_ok-parse_expr_not
+parse_basic_expr-returns-in_ok-parse_expr_not t c =
     let s = c.args.self.now in
     let text = s.text.now in
     let p = c.blanks_end-start.result in
@@ -211,15 +211,15 @@ parse_basic_expr-returns-in-ok-parse_expr_not t c =
     let o = c.in-Some.opening in
     let h = c.in-Some.ensures.value in
     let rd = λ (x : List ℕ). basic_at x c.args.free in
-    let g = grown (λ x. part p ⨾ (λ _. (under_at x c.args.free p).not)) refl c.in-ok-parse_expr_not.ensures.read in
+    let g = grown (λ x. part p ⨾ (λ _. (under_at x c.args.free p).not)) refl c.in_ok-parse_expr_not.ensures.read in
     record {
       read = tree-ok rd (basic-not text c.args.free (view s) p at o h c.in-Not.is g.got) g.nodes;
       moved = search rules;
     }
 
-pub parse_basic_expr-returns-in-err-parse_parentheses_expr : goal.parse_basic_expr-returns-in-err-parse_parentheses_expr
-parse_basic_expr-returns-in-err-parse_parentheses_expr t c =
-    let f = err_from_is_err_and c.from-residual-in-err-parse_parentheses_expr.result c.from-residual-in-err-parse_parentheses_expr.ensures.1 in
+pub parse_basic_expr-returns-in_err-parse_parentheses_expr : goal.parse_basic_expr-returns-in_err-parse_parentheses_expr
+parse_basic_expr-returns-in_err-parse_parentheses_expr t c =
+    let f = err_from_is_err_and c.from_residual-in_err-parse_parentheses_expr.result c.from_residual-in_err-parse_parentheses_expr.ensures.1 in
     let s = c.args.self.now in
     let text = s.text.now in
     let p = c.blanks_end-start.result in
@@ -228,12 +228,12 @@ parse_basic_expr-returns-in-err-parse_parentheses_expr t c =
     let h = c.in-Some.ensures.value in
     let rd = λ (x : List ℕ). basic_at x c.args.free in
     record {
-      read = rw (f.1, f.2) (tree-err rd (basic-group text c.args.free (view s) p at o h c.in-Group.is (got-err nothing c.in-err-parse_parentheses_expr.ensures.read.ran)));
+      read = rw (f.1, f.2) (tree-err rd (basic-group text c.args.free (view s) p at o h c.in-Group.is (got-err nothing c.in_err-parse_parentheses_expr.ensures.read.ran)));
       moved = search rules;
     }
 
-pub parse_basic_expr-returns-in-ok-parse_parentheses_expr : goal.parse_basic_expr-returns-in-ok-parse_parentheses_expr
-parse_basic_expr-returns-in-ok-parse_parentheses_expr t c =
+pub parse_basic_expr-returns-in_ok-parse_parentheses_expr : goal.parse_basic_expr-returns-in_ok-parse_parentheses_expr
+parse_basic_expr-returns-in_ok-parse_parentheses_expr t c =
     let s = c.args.self.now in
     let text = s.text.now in
     let p = c.blanks_end-start.result in
@@ -241,7 +241,7 @@ parse_basic_expr-returns-in-ok-parse_parentheses_expr t c =
     let o = c.in-Some.opening in
     let h = c.in-Some.ensures.value in
     let rd = λ (x : List ℕ). basic_at x c.args.free in
-    let g = grown (λ x. part p ⨾ (λ _. (under_at x c.args.free p).group)) refl c.in-ok-parse_parentheses_expr.ensures.read in
+    let g = grown (λ x. part p ⨾ (λ _. (under_at x c.args.free p).group)) refl c.in_ok-parse_parentheses_expr.ensures.read in
     record {
       read = tree-ok rd (basic-group text c.args.free (view s) p at o h c.in-Group.is g.got) g.nodes;
       moved = search rules;
@@ -265,15 +265,15 @@ parse_basic_expr-returns-in-Misplaced t c =
       moved = search rules;
     }
 
-pub parse_expr-returns-in-err-parse_and_or_difference_expr : goal.parse_expr-returns-in-err-parse_and_or_difference_expr
-parse_expr-returns-in-err-parse_and_or_difference_expr t c =
-    let p = err_from_is_err_and c.from-residual.result c.from-residual.ensures.1 in
+pub parse_expr-returns-in_err-parse_and_or_difference_expr : goal.parse_expr-returns-in_err-parse_and_or_difference_expr
+parse_expr-returns-in_err-parse_and_or_difference_expr t c =
+    let p = err_from_is_err_and c.from_residual.result c.from_residual.ensures.1 in
     let s = c.args.self.now in
     let text = s.text.now in
     let sign = or_sign text in
     let one = and_at text c.args.free in
     record {
-      read = rw (p.1, p.2) (tree-err (λ x. or_at x c.args.free) (chain-stop text sign one (halted s c.parse_and_or_difference_expr.new.self (λ x. and_at x c.args.free) refl c.in-err-parse_and_or_difference_expr.ensures.read)));
+      read = rw (p.1, p.2) (tree-err (λ x. or_at x c.args.free) (chain-stop text sign one (halted s c.parse_and_or_difference_expr.new.self (λ x. and_at x c.args.free) refl c.in_err-parse_and_or_difference_expr.ensures.read)));
       moved = search rules;
     }
 
@@ -283,21 +283,21 @@ parse_expr-loop-operator-init t c =
     let text = from.text.now in
     (search rules, togo-start text (or_sign text) (and_at text c.args.free) from)
 
-pub parse_expr-returns-in-err-operator : goal.parse_expr-returns-in-err-operator
-parse_expr-returns-in-err-operator t c =
-    let p = err_from_is_err_and c.from-residual-in-err-operator.result c.from-residual-in-err-operator.ensures.1 in
+pub parse_expr-returns-in_err-operator : goal.parse_expr-returns-in_err-operator
+parse_expr-returns-in_err-operator t c =
+    let p = err_from_is_err_and c.from_residual-in_err-operator.result c.from_residual-in_err-operator.ensures.1 in
     let s = c.args.self.now in
     let text = s.text.now in
     let sign = or_sign text in
     let one = and_at text c.args.free in
-    let first = grown (λ x. and_at x c.args.free) refl c.in-ok-parse_and_or_difference_expr.ensures.read in
+    let first = grown (λ x. and_at x c.args.free) refl c.in_ok-parse_and_or_difference_expr.ensures.read in
     let from = c.parse_and_or_difference_expr.new.self in
     let m = c.loop-operator.self in
     let a = c.parse_or_operator.new.self in
-    let te : from.text.now ≡ text = c.in-ok-parse_and_or_difference_expr.ensures.moved.text in
+    let te : from.text.now ≡ text = c.in_ok-parse_and_or_difference_expr.ensures.moved.text in
     let tm : m.text.now ≡ text = c.loop-operator.invariant.0.text ∙ te in
     let w = subst (λ (x : List ℕ). ToGo x (or_sign x) (and_at x c.args.free) from m) te c.loop-operator.invariant.1 in
-    let v = c.in-err-operator.ensures in
+    let v = c.in_err-operator.ensures in
     let g = got_same (re-at (view m) or_sign tm v.ran) in
     let lt : m.pos < length text = omega (arith, v.moved.on, v.moved.within, ap length tm) in
     record {
@@ -305,26 +305,26 @@ parse_expr-returns-in-err-operator t c =
       moved = search rules;
     }
 
-pub parse_expr-returns-in-err-parse_and_or_difference_expr-2 : goal.parse_expr-returns-in-err-parse_and_or_difference_expr-2
-parse_expr-returns-in-err-parse_and_or_difference_expr-2 t c =
-    let p = err_from_is_err_and c.from-residual-in-err-parse_and_or_difference_expr-2.result c.from-residual-in-err-parse_and_or_difference_expr-2.ensures.1 in
+pub parse_expr-returns-in_err-parse_and_or_difference_expr-2 : goal.parse_expr-returns-in_err-parse_and_or_difference_expr-2
+parse_expr-returns-in_err-parse_and_or_difference_expr-2 t c =
+    let p = err_from_is_err_and c.from_residual-in_err-parse_and_or_difference_expr-2.result c.from_residual-in_err-parse_and_or_difference_expr-2.ensures.1 in
     let s = c.args.self.now in
     let text = s.text.now in
     let sign = or_sign text in
     let one = and_at text c.args.free in
-    let first = grown (λ x. and_at x c.args.free) refl c.in-ok-parse_and_or_difference_expr.ensures.read in
+    let first = grown (λ x. and_at x c.args.free) refl c.in_ok-parse_and_or_difference_expr.ensures.read in
     let from = c.parse_and_or_difference_expr.new.self in
     let m = c.loop-operator.self in
     let a = c.parse_or_operator.new.self in
-    let te : from.text.now ≡ text = c.in-ok-parse_and_or_difference_expr.ensures.moved.text in
+    let te : from.text.now ≡ text = c.in_ok-parse_and_or_difference_expr.ensures.moved.text in
     let tm : m.text.now ≡ text = c.loop-operator.invariant.0.text ∙ te in
     let w = subst (λ (x : List ℕ). ToGo x (or_sign x) (and_at x c.args.free) from m) te c.loop-operator.invariant.1 in
-    let v = c.in-ok-operator.ensures in
+    let v = c.in_ok-operator.ensures in
     let b = c.parse_and_or_difference_expr-in-Some.new.self in
     let g = subst (λ (o : Option Operator). Got (view m) (sign (view m).at) (view a) (Ok o)) c.in-Some.is (got_same (re-at (view m) or_sign tm v.ran)) in
     let move : Moved 1 1 0 m a = (subst (λ (o : Option Operator). Taken (Ok o) m a) c.in-Some.is v.moved).0 in
     let lt : m.pos < length text = omega (arith, move.on, move.within, ap length tm) in
-    let h = halted a b (λ x. and_at x c.args.free) (same_text v.kept ∙ tm) c.in-err-parse_and_or_difference_expr-2.ensures.read in
+    let h = halted a b (λ x. and_at x c.args.free) (same_text v.kept ∙ tm) c.in_err-parse_and_or_difference_expr-2.ensures.read in
     record {
       read = rw (p.1, p.2) (tree-err (λ x. or_at x c.args.free) (chain-then text sign one first.got (togo-break text sign one a b w g h lt first.tree)));
       moved = search rules;
@@ -339,10 +339,10 @@ parse_expr-loop-operator-preserved t c =
     let m = c.loop-operator.self in
     let a = c.parse_or_operator.new.self in
     let tm : m.text.now ≡ text = c.loop-operator.invariant.0.text in
-    let v = c.in-ok-operator.ensures in
+    let v = c.in_ok-operator.ensures in
     let g = subst (λ (o : Option Operator). Got (view m) (sign (view m).at) (view a) (Ok o)) c.in-Some.is (got_same (re-at (view m) or_sign tm v.ran)) in
     let move = subst (λ (o : Option Operator). Taken (Ok o) m a) c.in-Some.is v.moved in
-    let h = c.in-ok-parse_and_or_difference_expr-2.ensures in
+    let h = c.in_ok-parse_and_or_difference_expr-2.ensures in
     let k = grown (λ x. and_at x c.args.free) (same_text v.kept ∙ tm) h.read in
     let lt : m.pos < length text = omega (arith, move.0.on, move.0.within, ap length tm) in
     let on : m.pos < c.parse_and_or_difference_expr-in-Some.new.self.pos = omega (arith, move.0.on, h.moved.on) in (
@@ -356,14 +356,14 @@ parse_expr-returns t c =
     let text = s.text.now in
     let sign = or_sign text in
     let one = and_at text c.args.free in
-    let first = grown (λ x. and_at x c.args.free) refl c.in-ok-parse_and_or_difference_expr.ensures.read in
+    let first = grown (λ x. and_at x c.args.free) refl c.in_ok-parse_and_or_difference_expr.ensures.read in
     let from = c.parse_and_or_difference_expr.new.self in
     let m = c.loop-operator.self in
     let a = c.parse_or_operator.new.self in
-    let te : from.text.now ≡ text = c.in-ok-parse_and_or_difference_expr.ensures.moved.text in
+    let te : from.text.now ≡ text = c.in_ok-parse_and_or_difference_expr.ensures.moved.text in
     let tm : m.text.now ≡ text = c.loop-operator.invariant.0.text ∙ te in
     let w = subst (λ (x : List ℕ). ToGo x (or_sign x) (and_at x c.args.free) from m) te c.loop-operator.invariant.1 in
-    let v = c.in-ok-operator.ensures in
+    let v = c.in_ok-operator.ensures in
     let g = subst (λ (o : Option Operator). Got (view m) (sign (view m).at) (view a) (Ok o)) c.in_default.is (got_same (re-at (view m) or_sign tm v.ran)) in
     let move : Moved 0 0 0 m a = subst (λ (o : Option Operator). Taken (Ok o) m a) c.in_default.is v.moved in
     let e = togo-end text sign one a w g (v.stays (ap (λ (o : Option Operator). Ok o) c.in_default.is)) (same_nodes v.kept) first.tree in
@@ -373,9 +373,9 @@ parse_expr-returns t c =
       moved = search rules;
     }
 
-pub parse_expr_not-returns-in-err-count_part : goal.parse_expr_not-returns-in-err-count_part
-parse_expr_not-returns-in-err-count_part t c =
-    let f = err_from_is_err_and c.from-residual.result c.from-residual.ensures.1 in
+pub parse_expr_not-returns-in_err-count_part : goal.parse_expr_not-returns-in_err-count_part
+parse_expr_not-returns-in_err-count_part t c =
+    let f = err_from_is_err_and c.from_residual.result c.from_residual.ensures.1 in
     let s = c.args.self.now in
     let text = s.text.now in
     let free = c.args.free in
@@ -383,7 +383,7 @@ parse_expr_not-returns-in-err-count_part t c =
     let m = view c.count_part.new.self in
     let rd = λ (x : List ℕ). part start ⨾ (λ _. (under_at x free start).not) in
     let go = λ (u : ℕ → Under). (u start).not m.at in
-    record { read = rw (f.1, f.2) (tree-err rd (got-stop (part start) (λ _. (under_at text free start).not) (got_same c.in-err-count_part.ensures.ran))); moved = search rules }
+    record { read = rw (f.1, f.2) (tree-err rd (got-stop (part start) (λ _. (under_at text free start).not) (got_same c.in_err-count_part.ensures.ran))); moved = search rules }
 
 pub parse_expr_not-returns-then-free-eq0 : goal.parse_expr_not-returns-then-free-eq0
 parse_expr_not-returns-then-free-eq0 t c =
@@ -394,13 +394,13 @@ parse_expr_not-returns-then-free-eq0 t c =
     let m = view c.count_part.new.self in
     let rd = λ (x : List ℕ). part start ⨾ (λ _. (under_at x free start).not) in
     let go = λ (u : ℕ → Under). (u start).not m.at in
-    let v = c.in-ok-count_part.ensures in
+    let v = c.in_ok-count_part.ensures in
     let zero = sym (ap go (under-zero text free c.if-free-eq0.true)) in
     record { read = tree-err rd (got-then (part start) (λ _. (under_at text free start).not) (got_same v.ran) (got-by zero (got-halt m (Deep start m.at.count)))); moved = search rules }
 
-pub parse_expr_not-returns-in-err-parse_basic_expr : goal.parse_expr_not-returns-in-err-parse_basic_expr
-parse_expr_not-returns-in-err-parse_basic_expr t c =
-    let f = err_from_is_err_and c.from-residual-in-err-parse_basic_expr.result c.from-residual-in-err-parse_basic_expr.ensures.1 in
+pub parse_expr_not-returns-in_err-parse_basic_expr : goal.parse_expr_not-returns-in_err-parse_basic_expr
+parse_expr_not-returns-in_err-parse_basic_expr t c =
+    let f = err_from_is_err_and c.from_residual-in_err-parse_basic_expr.result c.from_residual-in_err-parse_basic_expr.ensures.1 in
     let s = c.args.self.now in
     let text = s.text.now in
     let free = c.args.free in
@@ -408,9 +408,9 @@ parse_expr_not-returns-in-err-parse_basic_expr t c =
     let m = view c.count_part.new.self in
     let rd = λ (x : List ℕ). part start ⨾ (λ _. (under_at x free start).not) in
     let go = λ (u : ℕ → Under). (u start).not m.at in
-    let v = c.in-ok-count_part.ensures in
+    let v = c.in_ok-count_part.ensures in
     let more = sym (ap go (under_more text free c.if-free-eq0.false)) in
-    let h = halted c.count_part.new.self c.parse_basic_expr.new.self (λ x. basic_at x (free - 1)) (same_text v.kept) c.in-err-parse_basic_expr.ensures.read in
+    let h = halted c.count_part.new.self c.parse_basic_expr.new.self (λ x. basic_at x (free - 1)) (same_text v.kept) c.in_err-parse_basic_expr.ensures.read in
     record { read = rw (f.1, f.2) (tree-err rd (got-then (part start) (λ _. (under_at text free start).not) (got_same v.ran) (got-by more (got-stop (basic_at text (free - 1)) (λ x. done (Tree.negated x)) h)))); moved = search rules }
 
 pub parse_expr_not-returns : goal.parse_expr_not-returns
@@ -422,9 +422,9 @@ parse_expr_not-returns t c =
     let m = view c.count_part.new.self in
     let rd = λ (x : List ℕ). part start ⨾ (λ _. (under_at x free start).not) in
     let go = λ (u : ℕ → Under). (u start).not m.at in
-    let v = c.in-ok-count_part.ensures in
+    let v = c.in_ok-count_part.ensures in
     let more = sym (ap go (under_more text free c.if-free-eq0.false)) in
-    let h = c.in-ok-parse_basic_expr.ensures in
+    let h = c.in_ok-parse_basic_expr.ensures in
     let ta = same_text v.kept in
     let g = grown (λ x. basic_at x (free - 1)) ta h.read in
     let b = c.parse_basic_expr.new.self in
@@ -434,9 +434,9 @@ parse_expr_not-returns t c =
     ∙ append_assoc (held s) (nodes_of x) (node.Not ∷ []) ∙ ap (λ (l : List ParsedNode). held s ++ l) (sym (nodes-negated x)) in
     record { read = tree-ok rd (got-then (part start) (λ _. (under_at text free start).not) (got_same v.ran) (got-by more inner)) all; moved = search rules }
 
-pub parse_parentheses_expr-returns-in-err-count_part : goal.parse_parentheses_expr-returns-in-err-count_part
-parse_parentheses_expr-returns-in-err-count_part t c =
-    let f = err_from_is_err_and c.from-residual.result c.from-residual.ensures.1 in
+pub parse_parentheses_expr-returns-in_err-count_part : goal.parse_parentheses_expr-returns-in_err-count_part
+parse_parentheses_expr-returns-in_err-count_part t c =
+    let f = err_from_is_err_and c.from_residual.result c.from_residual.ensures.1 in
     let s = c.args.self.now in
     let text = s.text.now in
     let free = c.args.free in
@@ -444,7 +444,7 @@ parse_parentheses_expr-returns-in-err-count_part t c =
     let m = view c.count_part.new.self in
     let rd = λ (x : List ℕ). part start ⨾ (λ _. (under_at x free start).group) in
     let go = λ (u : ℕ → Under). (u start).group m.at in
-    record { read = rw (f.1, f.2) (tree-err rd (got-stop (part start) (λ _. (under_at text free start).group) (got_same c.in-err-count_part.ensures.ran))); moved = search rules }
+    record { read = rw (f.1, f.2) (tree-err rd (got-stop (part start) (λ _. (under_at text free start).group) (got_same c.in_err-count_part.ensures.ran))); moved = search rules }
 
 pub parse_parentheses_expr-returns-then-free-eq0 : goal.parse_parentheses_expr-returns-then-free-eq0
 parse_parentheses_expr-returns-then-free-eq0 t c =
@@ -455,13 +455,13 @@ parse_parentheses_expr-returns-then-free-eq0 t c =
     let m = view c.count_part.new.self in
     let rd = λ (x : List ℕ). part start ⨾ (λ _. (under_at x free start).group) in
     let go = λ (u : ℕ → Under). (u start).group m.at in
-    let v = c.in-ok-count_part.ensures in
+    let v = c.in_ok-count_part.ensures in
     let zero = sym (ap go (under-zero text free c.if-free-eq0.true)) in
     record { read = tree-err rd (got-then (part start) (λ _. (under_at text free start).group) (got_same v.ran) (got-by zero (got-halt m (Deep start m.at.count)))); moved = search rules }
 
-pub parse_parentheses_expr-returns-in-err-parse_expr : goal.parse_parentheses_expr-returns-in-err-parse_expr
-parse_parentheses_expr-returns-in-err-parse_expr t c =
-    let f = err_from_is_err_and c.from-residual-in-err-parse_expr.result c.from-residual-in-err-parse_expr.ensures.1 in
+pub parse_parentheses_expr-returns-in_err-parse_expr : goal.parse_parentheses_expr-returns-in_err-parse_expr
+parse_parentheses_expr-returns-in_err-parse_expr t c =
+    let f = err_from_is_err_and c.from_residual-in_err-parse_expr.result c.from_residual-in_err-parse_expr.ensures.1 in
     let s = c.args.self.now in
     let text = s.text.now in
     let free = c.args.free in
@@ -469,9 +469,9 @@ parse_parentheses_expr-returns-in-err-parse_expr t c =
     let m = view c.count_part.new.self in
     let rd = λ (x : List ℕ). part start ⨾ (λ _. (under_at x free start).group) in
     let go = λ (u : ℕ → Under). (u start).group m.at in
-    let v = c.in-ok-count_part.ensures in
+    let v = c.in_ok-count_part.ensures in
     let more = sym (ap go (under_more text free c.if-free-eq0.false)) in
-    let h = halted c.count_part.new.self c.parse_expr.new.self (λ x. or_at x (free - 1)) (same_text v.kept) c.in-err-parse_expr.ensures.read in
+    let h = halted c.count_part.new.self c.parse_expr.new.self (λ x. or_at x (free - 1)) (same_text v.kept) c.in_err-parse_expr.ensures.read in
     record { read = rw (f.1, f.2) (tree-err rd (got-then (part start) (λ _. (under_at text free start).group) (got_same v.ran) (got-by more (got-stop (or_at text (free - 1)) (λ x. close_at text ⨾ (λ _. done (Tree.group x))) h)))); moved = search rules }
 
 pub parse_parentheses_expr-returns : goal.parse_parentheses_expr-returns
@@ -483,9 +483,9 @@ parse_parentheses_expr-returns t c =
     let m = view c.count_part.new.self in
     let rd = λ (x : List ℕ). part start ⨾ (λ _. (under_at x free start).group) in
     let go = λ (u : ℕ → Under). (u start).group m.at in
-    let v = c.in-ok-count_part.ensures in
+    let v = c.in_ok-count_part.ensures in
     let more = sym (ap go (under_more text free c.if-free-eq0.false)) in
-    let h = c.in-ok-parse_expr.ensures in
+    let h = c.in_ok-parse_expr.ensures in
     let ta = same_text v.kept in
     let g = grown (λ x. or_at x (free - 1)) ta h.read in
     let b = c.parse_expr.new.self in

@@ -8,15 +8,15 @@ use Rattle.parsing.proofs.Trees.{Grown, grown, halted, tree-ok, tree-err}
 use Rattle.parsing.proofs.Sets.{same_nodes}
 use Rattle.parsing.proofs.cursor.Cursor.parse_filter.Goals as goal
 
-pub returns-in-err-parse_expr : goal.returns-in-err-parse_expr
+pub returns-in_err-parse_expr : goal.returns-in_err-parse_expr
 unfolding filter_at
-returns-in-err-parse_expr c =
-    let f = err_from_is_err_and c.from-residual.result c.from-residual.ensures.1 in
+returns-in_err-parse_expr c =
+    let f = err_from_is_err_and c.from_residual.result c.from_residual.ensures.1 in
     let s = c.args.self.now in
     let text = s.text.now in
     record {
-      read = rw (f.1, f.2) (tree-err filter_at (got-stop (or_at text 32) (λ x. end_at text ⨾ (λ _. done x)) (halted s c.parse_expr.new.self (λ x. or_at x 32) refl c.in-err-parse_expr.ensures.read)));
-      cap = c.in-err-parse_expr.ensures.moved.cap;
+      read = rw (f.1, f.2) (tree-err filter_at (got-stop (or_at text 32) (λ x. end_at text ⨾ (λ _. done x)) (halted s c.parse_expr.new.self (λ x. or_at x 32) refl c.in_err-parse_expr.ensures.read)));
+      cap = c.in_err-parse_expr.ensures.moved.cap;
     }
 
 pub returns : goal.returns
@@ -24,7 +24,7 @@ unfolding filter_at
 returns c =
     let s = c.args.self.now in
     let text = s.text.now in
-    let h = c.in-ok-parse_expr.ensures in
+    let h = c.in_ok-parse_expr.ensures in
     let g = grown (λ x. or_at x 32) refl h.read in
     let e = got_same (re-at (view c.parse_expr.new.self) end_at h.moved.text c.parse_end.ensures.ran) in
     record {

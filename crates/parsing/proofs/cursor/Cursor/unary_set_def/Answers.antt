@@ -23,16 +23,16 @@ use Rattle.expression.specs.declared.name_matcher.MatchKind.{MatchKind}
 use Rattle.parsing.specs.View.{Ran}
 use Rattle.parsing.proofs.cursor.Cursor.unary_set_def.Goals as goal
 
-pub returns-in-err-matcher : goal.returns-in-err-matcher
-returns-in-err-matcher c =
-    let p = err_from_is_err_and c.from-residual.result c.from-residual.ensures.1 in
+pub returns-in_err-matcher : goal.returns-in_err-matcher
+returns-in_err-matcher c =
+    let p = err_from_is_err_and c.from_residual.result c.from_residual.ensures.1 in
     let s = c.args.self.now in
     let t = s.text.now in
     let k1 = c.expect_char.ensures.kept in
     let a = view c.expect_char.new.self in
     let b = view c.set_matcher.new.self in
     let u = c.default_matcher.ensures in
-    let g = got-by (ap (λ (k : MatchKind). argument_at t k a.at) u) (got-err matcher_only (re-at a (λ x. argument_at x c.default_matcher.result) (same_text k1) c.in-err-matcher.ensures.ran)) in
+    let g = got-by (ap (λ (k : MatchKind). argument_at t k a.at) u) (got-err matcher_only (re-at a (λ x. argument_at x c.default_matcher.result) (same_text k1) c.in_err-matcher.ensures.ran)) in
     record {
       read = rw (p.1, p.2) (tree-err (λ x. unary_at x c.args.predicate) (unary-stop t c.args.predicate (got_same c.expect_char.ensures.ran) g));
       moved = search rules;
@@ -50,7 +50,7 @@ returns-in-Some c =
     let k3 = kept_then k2 c.recover_unexpected_comma.ensures.kept in
     let k4 = kept_then k3 c.expect_char-2.ensures.kept in
     let closed = closed-got t (got_same (re-at b comma_at (same_text k2) c.recover_unexpected_comma.ensures.ran)) (got_same (re-at (view c.recover_unexpected_comma.new.self) (λ x. expect x 41 ExpectedCloseParenthesis) (same_text k3) c.expect_char-2.ensures.ran)) in
-    let read = re-at a (λ x. argument_at x c.default_matcher.result) (same_text k1) c.in-ok-matcher.ensures.ran in
+    let read = re-at a (λ x. argument_at x c.default_matcher.result) (same_text k1) c.in_ok-matcher.ensures.ran in
     let m = matched-some (subst (λ (x : Option NameMatcher). Ran matcher_only a (argument_at t c.default_matcher.result a.at) b (Ok x)) c.in-Some.is read) in
     let g = got-by (ap (λ (k : MatchKind). argument_at t k a.at) u) m.1 in
     let at = between a.at.pos b.at.pos in
@@ -73,7 +73,7 @@ returns-in_default c =
     let k3 = kept_then k2 c.recover_unexpected_comma.ensures.kept in
     let k4 = kept_then k3 c.expect_char-2.ensures.kept in
     let closed = closed-got t (got_same (re-at b comma_at (same_text k2) c.recover_unexpected_comma.ensures.ran)) (got_same (re-at (view c.recover_unexpected_comma.new.self) (λ x. expect x 41 ExpectedCloseParenthesis) (same_text k3) c.expect_char-2.ensures.ran)) in
-    let read = re-at a (λ x. argument_at x c.default_matcher.result) (same_text k1) c.in-ok-matcher.ensures.ran in
+    let read = re-at a (λ x. argument_at x c.default_matcher.result) (same_text k1) c.in_ok-matcher.ensures.ran in
     let m = matched-none (subst (λ (x : Option NameMatcher). Ran matcher_only a (argument_at t c.default_matcher.result a.at) b (Ok x)) c.in_default.is read) in
     let g = got-by (ap (λ (k : MatchKind). argument_at t k a.at) u) m in
     record {
