@@ -389,7 +389,7 @@ impl Cursor<'_> {
     }
 
     // An or-expression: and-expressions joined from the left, with `free` nests left.
-    #[cycle(parse_and_or_difference_expr_parse_basic_expr_parse_expr_parse_expr_not_parse_parentheses_expr)]
+    #[cycle(expr)]
     fn parse_expr(&mut self, free: usize) -> Result<(), ReadingFault>
         requires { Sound 0 1 self.old }
         ensures read { ReadsTree (λ t. or_at t free) self.old self.new result }
@@ -404,7 +404,7 @@ impl Cursor<'_> {
     }
 
     // An and-expression: basics joined from the left.
-    #[cycle(parse_and_or_difference_expr_parse_basic_expr_parse_expr_parse_expr_not_parse_parentheses_expr)]
+    #[cycle(expr)]
     fn parse_and_or_difference_expr(&mut self, free: usize) -> Result<(), ReadingFault>
         requires { Sound 0 1 self.old }
         ensures read { ReadsTree (λ t. and_at t free) self.old self.new result }
@@ -419,7 +419,7 @@ impl Cursor<'_> {
     }
 
     // A basic: a set, a `not` with a basic, or a group. An operator in its place, or nothing of these, is reported.
-    #[cycle(parse_and_or_difference_expr_parse_basic_expr_parse_expr_parse_expr_not_parse_parentheses_expr)]
+    #[cycle(expr)]
     fn parse_basic_expr(&mut self, free: usize) -> Result<(), ReadingFault>
         requires { Sound 0 1 self.old }
         ensures read { ReadsTree (λ t. basic_at t free) self.old self.new result }
@@ -448,7 +448,7 @@ impl Cursor<'_> {
     }
 
     // What follows a not sign, which begins at `start`.
-    #[cycle(parse_and_or_difference_expr_parse_basic_expr_parse_expr_parse_expr_not_parse_parentheses_expr)]
+    #[cycle(expr)]
     fn parse_expr_not(&mut self, start: usize, free: usize) -> Result<(), ReadingFault>
         requires { Sound 0 1 self.old }
         ensures read { ReadsTree (λ t. part start ⨾ (λ _. (under_at t free start).not)) self.old self.new result }
@@ -467,7 +467,7 @@ impl Cursor<'_> {
     }
 
     // What follows the bracket of a group, which stands at `start`.
-    #[cycle(parse_and_or_difference_expr_parse_basic_expr_parse_expr_parse_expr_not_parse_parentheses_expr)]
+    #[cycle(expr)]
     fn parse_parentheses_expr(&mut self, start: usize, free: usize) -> Result<(), ReadingFault>
         requires { Sound 0 1 self.old }
         ensures read { ReadsTree (λ t. part start ⨾ (λ _. (under_at t free start).group)) self.old self.new result }

@@ -2,7 +2,7 @@ use Rattle.std.proofs.Common.{◌+◌, ◌-◌, ◌*◌, length}
 use Rattle.parsing.specs.Reading.{basic_at, and_at, or_sign, and_sign}
 use Rattle.parsing.specs.View.{Moved}
 use Rattle.parsing.proofs.Chains.{ToGo}
-use Rattle.parsing.proofs.cursor.Cursor.+parse_and_or_difference_expr_parse_basic_expr_parse_expr_parse_expr_not_parse_parentheses_expr.Given as goal
+use Rattle.parsing.proofs.cursor.Cursor.+expr.Given as goal
 
 abbrev pub decreases-parse_and_or_difference_expr : goal.decreases-parse_and_or_difference_expr
 decreases-parse_and_or_difference_expr l = 5 * l.free + 3

@@ -15,7 +15,7 @@ use Rattle.parsing.proofs.Trees.{Grown, grown, halted, tree-ok, tree-err}
 use Rattle.parsing.proofs.Sets.{same_text, same_nodes}
 use Rattle.parsing.proofs.Chains.{ToGo, togo-start, togo-end, togo-stop, togo-break, togo-more, chain-stop, chain-then, nodes-negated, nodes-group}
 use Rattle.parsing.proofs.Basics.{under-zero, under_more, basic-none, basic-set, basic-not, basic-group, basic-misplaced}
-use Rattle.parsing.proofs.cursor.Cursor.+parse_and_or_difference_expr_parse_basic_expr_parse_expr_parse_expr_not_parse_parentheses_expr.Goals as goal
+use Rattle.parsing.proofs.cursor.Cursor.+expr.Goals as goal
 
 pub parse_and_or_difference_expr-returns-in_err-parse_basic_expr : goal.parse_and_or_difference_expr-returns-in_err-parse_basic_expr
 parse_and_or_difference_expr-returns-in_err-parse_basic_expr t c =
