@@ -1,5 +1,5 @@
 -- Bounds that the readers keep.
-use Rattle.std.proofs.Common.{◌≡◌, ℕ, ◌+◌, ◌*◌, ◌≤◌, List, length, vec_len, vec_capacity, Vec, sym, refl, ap, ◌∙◌, subst, arith, Bor}
+use Rattle.std.proofs.Common.{◌≡◌, ℕ, ◌+◌, ◌*◌, ◌≤◌, List, length, vec_len, vec_capacity, Vec, sym, refl, ap, ◌∙◌, subst, arith, MutBor}
 use Rattle.std.specs.declared.alloc.Global.{Global}
 use Rattle.parsing.specs.declared.nodes.ParsedNode.{ParsedNode}
 use Rattle.parsing.specs.declared.cursor.Cursor.{Cursor}
@@ -69,7 +69,7 @@ moved_to {k} {a} {c} {d} b s e h w =
 pub moved-turn : {s m a b d : Cursor} → Moved 0 0 0 s m → Moved 1 1 0 m a → Kept m a → a.parts ≡ m.parts + 1 → Moved 0 1 0 a b → d.text.now ≡ b.text.now → d.pos ≡ b.pos → d.parts ≡ b.parts → d.count ≡ b.count →
     d.used ≡ b.used → vec_len d.nodes.now ≡ vec_len b.nodes.now + 1 → vec_capacity d.nodes.now ≡ vec_capacity b.nodes.now → Moved 0 0 0 s d
 moved-turn {s} {m} {a} {b} {d} u v k p w text pos parts count used len cap =
-    let n : vec_len a.nodes.now ≡ vec_len m.nodes.now = ap (λ (r : Bor (Vec ParsedNode Global)). vec_len r.now) k.nodes in
+    let n : vec_len a.nodes.now ≡ vec_len m.nodes.now = ap (λ (r : MutBor (Vec ParsedNode Global)). vec_len r.now) k.nodes in
     let tm : length m.text.now ≡ length s.text.now = ap length u.text in
     let ta : length a.text.now ≡ length m.text.now = ap length v.text in
     record {

@@ -1,5 +1,5 @@
 -- Sets, step by step.
-use Rattle.std.proofs.Common.{◌≡◌, ℕ, ◌+◌, Bool, true, false, cond, List, [], ◌∷◌, ◌++◌, Some, None, Ok, Err, vec_items, Option, Result, Vec, sym, refl, ap, ◌∙◌, subst, append-nil, arith, Bor}
+use Rattle.std.proofs.Common.{◌≡◌, ℕ, ◌+◌, Bool, true, false, cond, List, [], ◌∷◌, ◌++◌, Some, None, Ok, Err, vec_items, Option, Result, Vec, sym, refl, ap, ◌∙◌, subst, append-nil, arith, Bor, MutBor}
 use lib.Seq.{sets}
 use Rattle.std.specs.declared.alloc.Global.{Global}
 use Rattle.errors.specs.declared.faults.ReadingFault.{ReadingFault}
@@ -21,7 +21,7 @@ pub same_text : {c d : Cursor} → Kept c d → d.text.now ≡ c.text.now
 same_text k = ap (λ (r : Bor (List ℕ)). r.now) k.text
 
 pub same_nodes : {c d : Cursor} → Kept c d → held d ≡ held c
-same_nodes k = ap (λ (r : Bor (Vec ParsedNode Global)). vec_items r.now) k.nodes
+same_nodes k = ap (λ (r : MutBor (Vec ParsedNode Global)). vec_items r.now) k.nodes
 
 cond-none : (b : Bool) (x y : Out (Unit {0})) → x.bytes ≡ [] → y.bytes ≡ [] → (cond b x y).bytes ≡ []
 cond-none true x y p q = p

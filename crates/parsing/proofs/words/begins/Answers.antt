@@ -22,14 +22,14 @@ pub returns-then-at-i : goal.returns-then-at-i
 returns-then-at-i c =
     record { value = sym (off _ _ _ _ c.loop-i-test.true c.if-at-i.true) ∙ c.loop-i.invariant.1; fits = λ e. absurd (let z : ◌≡◌ {A = ℕ} 0 1 = cc in omega arith) }
 
-pub returns-then-text_at : goal.returns-then-text_at
-returns-then-text_at c =
-    record { value = sym (differs _ _ _ _ c.loop-i-test.true c.if-at-i.false c.if-text_at.true) ∙ c.loop-i.invariant.1; fits = λ e. absurd (let z : ◌≡◌ {A = ℕ} 0 1 = cc in omega arith) }
+pub returns-then-text-at : goal.returns-then-text-at
+returns-then-text-at c =
+    record { value = sym (differs _ _ _ _ c.loop-i-test.true c.if-at-i.false c.if-text-at.true) ∙ c.loop-i.invariant.1; fits = λ e. absurd (let z : ◌≡◌ {A = ℕ} 0 1 = cc in omega arith) }
 
 pub loop-i-preserved : goal.loop-i-preserved
 loop-i-preserved c =
     let e : c.args.at + (c.loop-i.i + 1) ≡ c.args.at + c.loop-i.i + 1 = omega arith in
-    (omega arith, ap (λ (p : ℕ). begins_at c.args.text.now p (drop (c.loop-i.i + 1) c.args.word.now)) e ∙ sym (more _ _ _ _ c.loop-i-test.true c.if-at-i.false c.if-text_at.false) ∙ c.loop-i.invariant.1)
+    (omega arith, ap (λ (p : ℕ). begins_at c.args.text.now p (drop (c.loop-i.i + 1) c.args.word.now)) e ∙ sym (more _ _ _ _ c.loop-i-test.true c.if-at-i.false c.if-text-at.false) ∙ c.loop-i.invariant.1)
 
 pub returns : goal.returns
 unfolding begins_at

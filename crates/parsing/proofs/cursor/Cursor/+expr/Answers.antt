@@ -137,8 +137,8 @@ parse_basic_expr-returns-in_default t c =
       moved = search rules;
     }
 
-pub parse_basic_expr-returns-in_err-count_part : goal.parse_basic_expr-returns-in_err-count_part
-parse_basic_expr-returns-in_err-count_part t c =
+pub parse_basic_expr-returns-in_err-count_part-in-Set : goal.parse_basic_expr-returns-in_err-count_part-in-Set
+parse_basic_expr-returns-in_err-count_part-in-Set t c =
     let f = err_from_is_err_and c.from_residual.result c.from_residual.ensures.1 in
     let s = c.args.self.now in
     let text = s.text.now in
@@ -148,13 +148,13 @@ parse_basic_expr-returns-in_err-count_part t c =
     let h = c.in-Some.ensures.value in
     let rd = λ (x : List ℕ). basic_at x c.args.free in
     record {
-      read = rw (f.1, f.2) (tree-err rd (basic-set text c.args.free (view s) p at o h c.in-Set.set c.in-Set.is (got-stop (part p) _ (got_same c.in_err-count_part.ensures.ran))));
+      read = rw (f.1, f.2) (tree-err rd (basic-set text c.args.free (view s) p at o h c.in-Set.set c.in-Set.is (got-stop (part p) _ (got_same c.in_err-count_part-in-Set.ensures.ran))));
       moved = search rules;
     }
 
-pub parse_basic_expr-returns-in_err-parse_set_def : goal.parse_basic_expr-returns-in_err-parse_set_def
-parse_basic_expr-returns-in_err-parse_set_def t c =
-    let f = err_from_is_err_and c.from_residual-in_err-parse_set_def.result c.from_residual-in_err-parse_set_def.ensures.1 in
+pub parse_basic_expr-returns-in_err-parse_set_def-in-Set : goal.parse_basic_expr-returns-in_err-parse_set_def-in-Set
+parse_basic_expr-returns-in_err-parse_set_def-in-Set t c =
+    let f = err_from_is_err_and c.from_residual-in_err-parse_set_def-in-Set.result c.from_residual-in_err-parse_set_def-in-Set.ensures.1 in
     let s = c.args.self.now in
     let text = s.text.now in
     let p = c.blanks_end-start.result in
@@ -163,15 +163,15 @@ parse_basic_expr-returns-in_err-parse_set_def t c =
     let h = c.in-Some.ensures.value in
     let rd = λ (x : List ℕ). basic_at x c.args.free in
     let n = c.in-Set.set in
-    let v = c.in_ok-count_part.ensures in
-    let g = halted c.count_part.new.self c.parse_set_def.new.self (λ x. set_at x p n) (same_text v.kept) c.in_err-parse_set_def.ensures.read in
+    let v = c.in_ok-count_part-in-Set.ensures in
+    let g = halted c.count_part.new.self c.parse_set_def.new.self (λ x. set_at x p n) (same_text v.kept) c.in_err-parse_set_def-in-Set.ensures.read in
     record {
       read = rw (f.1, f.2) (tree-err rd (basic-set text c.args.free (view s) p at o h n c.in-Set.is (got-then (part p) (λ _. set_at text p n) (got_same v.ran) g)));
       moved = search rules;
     }
 
-pub parse_basic_expr-returns-in_ok-parse_set_def : goal.parse_basic_expr-returns-in_ok-parse_set_def
-parse_basic_expr-returns-in_ok-parse_set_def t c =
+pub parse_basic_expr-returns-in_ok-parse_set_def-in-Set : goal.parse_basic_expr-returns-in_ok-parse_set_def-in-Set
+parse_basic_expr-returns-in_ok-parse_set_def-in-Set t c =
     let s = c.args.self.now in
     let text = s.text.now in
     let p = c.blanks_end-start.result in
@@ -180,16 +180,16 @@ parse_basic_expr-returns-in_ok-parse_set_def t c =
     let h = c.in-Some.ensures.value in
     let rd = λ (x : List ℕ). basic_at x c.args.free in
     let n = c.in-Set.set in
-    let v = c.in_ok-count_part.ensures in
-    let g = grown (λ x. set_at x p n) (same_text v.kept) c.in_ok-parse_set_def.ensures.read in
+    let v = c.in_ok-count_part-in-Set.ensures in
+    let g = grown (λ x. set_at x p n) (same_text v.kept) c.in_ok-parse_set_def-in-Set.ensures.read in
     record {
       read = tree-ok rd (basic-set text c.args.free (view s) p at o h n c.in-Set.is (got-then (part p) (λ _. set_at text p n) (got_same v.ran) g.got)) (g.nodes ∙ ap (λ (l : List ParsedNode). l ++ nodes_of g.tree) (same_nodes v.kept));
       moved = search rules;
     }
 
-pub parse_basic_expr-returns-in_err-parse_expr_not : goal.parse_basic_expr-returns-in_err-parse_expr_not
-parse_basic_expr-returns-in_err-parse_expr_not t c =
-    let f = err_from_is_err_and c.from_residual-in_err-parse_expr_not.result c.from_residual-in_err-parse_expr_not.ensures.1 in
+pub parse_basic_expr-returns-in_err-parse_expr_not-in-Not : goal.parse_basic_expr-returns-in_err-parse_expr_not-in-Not
+parse_basic_expr-returns-in_err-parse_expr_not-in-Not t c =
+    let f = err_from_is_err_and c.from_residual-in_err-parse_expr_not-in-Not.result c.from_residual-in_err-parse_expr_not-in-Not.ensures.1 in
     let s = c.args.self.now in
     let text = s.text.now in
     let p = c.blanks_end-start.result in
@@ -198,12 +198,12 @@ parse_basic_expr-returns-in_err-parse_expr_not t c =
     let h = c.in-Some.ensures.value in
     let rd = λ (x : List ℕ). basic_at x c.args.free in
     record {
-      read = rw (f.1, f.2) (tree-err rd (basic-not text c.args.free (view s) p at o h c.in-Not.is (got-err nothing c.in_err-parse_expr_not.ensures.read.ran)));
+      read = rw (f.1, f.2) (tree-err rd (basic-not text c.args.free (view s) p at o h c.in-Not.is (got-err nothing c.in_err-parse_expr_not-in-Not.ensures.read.ran)));
       moved = search rules;
     }
 
-pub parse_basic_expr-returns-in_ok-parse_expr_not : goal.parse_basic_expr-returns-in_ok-parse_expr_not
-parse_basic_expr-returns-in_ok-parse_expr_not t c =
+pub parse_basic_expr-returns-in_ok-parse_expr_not-in-Not : goal.parse_basic_expr-returns-in_ok-parse_expr_not-in-Not
+parse_basic_expr-returns-in_ok-parse_expr_not-in-Not t c =
     let s = c.args.self.now in
     let text = s.text.now in
     let p = c.blanks_end-start.result in
@@ -211,15 +211,15 @@ parse_basic_expr-returns-in_ok-parse_expr_not t c =
     let o = c.in-Some.opening in
     let h = c.in-Some.ensures.value in
     let rd = λ (x : List ℕ). basic_at x c.args.free in
-    let g = grown (λ x. part p ⨾ (λ _. (under_at x c.args.free p).not)) refl c.in_ok-parse_expr_not.ensures.read in
+    let g = grown (λ x. part p ⨾ (λ _. (under_at x c.args.free p).not)) refl c.in_ok-parse_expr_not-in-Not.ensures.read in
     record {
       read = tree-ok rd (basic-not text c.args.free (view s) p at o h c.in-Not.is g.got) g.nodes;
       moved = search rules;
     }
 
-pub parse_basic_expr-returns-in_err-parse_parentheses_expr : goal.parse_basic_expr-returns-in_err-parse_parentheses_expr
-parse_basic_expr-returns-in_err-parse_parentheses_expr t c =
-    let f = err_from_is_err_and c.from_residual-in_err-parse_parentheses_expr.result c.from_residual-in_err-parse_parentheses_expr.ensures.1 in
+pub parse_basic_expr-returns-in_err-parse_parentheses_expr-in-Group : goal.parse_basic_expr-returns-in_err-parse_parentheses_expr-in-Group
+parse_basic_expr-returns-in_err-parse_parentheses_expr-in-Group t c =
+    let f = err_from_is_err_and c.from_residual-in_err-parse_parentheses_expr-in-Group.result c.from_residual-in_err-parse_parentheses_expr-in-Group.ensures.1 in
     let s = c.args.self.now in
     let text = s.text.now in
     let p = c.blanks_end-start.result in
@@ -228,12 +228,12 @@ parse_basic_expr-returns-in_err-parse_parentheses_expr t c =
     let h = c.in-Some.ensures.value in
     let rd = λ (x : List ℕ). basic_at x c.args.free in
     record {
-      read = rw (f.1, f.2) (tree-err rd (basic-group text c.args.free (view s) p at o h c.in-Group.is (got-err nothing c.in_err-parse_parentheses_expr.ensures.read.ran)));
+      read = rw (f.1, f.2) (tree-err rd (basic-group text c.args.free (view s) p at o h c.in-Group.is (got-err nothing c.in_err-parse_parentheses_expr-in-Group.ensures.read.ran)));
       moved = search rules;
     }
 
-pub parse_basic_expr-returns-in_ok-parse_parentheses_expr : goal.parse_basic_expr-returns-in_ok-parse_parentheses_expr
-parse_basic_expr-returns-in_ok-parse_parentheses_expr t c =
+pub parse_basic_expr-returns-in_ok-parse_parentheses_expr-in-Group : goal.parse_basic_expr-returns-in_ok-parse_parentheses_expr-in-Group
+parse_basic_expr-returns-in_ok-parse_parentheses_expr-in-Group t c =
     let s = c.args.self.now in
     let text = s.text.now in
     let p = c.blanks_end-start.result in
@@ -241,7 +241,7 @@ parse_basic_expr-returns-in_ok-parse_parentheses_expr t c =
     let o = c.in-Some.opening in
     let h = c.in-Some.ensures.value in
     let rd = λ (x : List ℕ). basic_at x c.args.free in
-    let g = grown (λ x. part p ⨾ (λ _. (under_at x c.args.free p).group)) refl c.in_ok-parse_parentheses_expr.ensures.read in
+    let g = grown (λ x. part p ⨾ (λ _. (under_at x c.args.free p).group)) refl c.in_ok-parse_parentheses_expr-in-Group.ensures.read in
     record {
       read = tree-ok rd (basic-group text c.args.free (view s) p at o h c.in-Group.is g.got) g.nodes;
       moved = search rules;
