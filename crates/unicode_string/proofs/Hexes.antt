@@ -1,8 +1,8 @@
 -- The rules of the two tables.
-use Rattle.std.proofs.Common.{◌≡◌, ℕ, ◌<◌, Bool, true, false, cond, T, eqb, List, [], ◌∷◌, ◌++◌, length, get_or, replicate, sym, refl, ◌∙◌, arith, eqb→eq}
+use Rattle.std.proofs.Common.{◌≡◌, ℕ, ◌<◌, Bool, true, false, T, eqb, List, ◌∷◌, ◌++◌, get_or, replicate, refl, arith, eqb→eq}
 use Rattle.std.proofs.lemmas.Bool.Decides.{nat_tests}
 use Rattle.unicode_string.specs.Text.{hex_of, is_word}
-use Rattle.unicode_string.proofs.Rules.{every, at}
+use Rattle.unicode_string.proofs.Rules.{at}
 
 abbrev same : Bool → Bool → Bool
 same true b = b

@@ -1,17 +1,15 @@
 -- A name as a part of the text or of the decoding space.
-use Rattle.std.proofs.Common.{◌≡◌, ℕ, zero, suc, ◌+◌, ◌-◌, ◌<◌, ◌≤◌, Bool, true, false, cond, eqb, ◌⊎◌, List, [], ◌∷◌, ◌++◌, length, get_or, take, drop, Some, None, Option, sym, refl, ap, ◌∙◌, subst, inl, inr, append_assoc, arith, length-append, length-take, length-take-le, take_at, drop_at}
+use Rattle.std.proofs.Common.{◌≡◌, ℕ, zero, suc, ◌+◌, ◌-◌, ◌<◌, ◌≤◌, Bool, true, cond, List, ◌++◌, length, get_or, take, drop, Some, None, Option, sym, refl, ap, ◌∙◌, subst, inl, inr, append_assoc, arith, length-append, length-take-le, take_at, drop_at}
 use lib.Seq.{sets, sets-eq, length-sets}
 use Rattle.std.proofs.lemmas.Bool.{cases_eq, cases_Bool, eq-eqb, le-leb}
 use Rattle.std.proofs.lemmas.Bool.Decides.{nat_tests}
 use Rattle.errors.specs.declared.reports.Report.{Report}
 use Rattle.glob.specs.Parts.{part_of}
-use Rattle.glob.specs.declared.place.Place.{Place}
 use Rattle.unicode_string.specs.declared.Name.{Name}
 use Rattle.unicode_string.specs.declared.NameRead.{NameRead}
 use Rattle.unicode_string.specs.Text.{run_end}
-use Rattle.unicode_string.specs.Names.{spelt, in_space, in_text, Out, Named, done, whole, decoded, more, frag_at, frags_at, name_at, bytes_in, has_room, out_at, read_at, first_start, ◌⨾◌}
+use Rattle.unicode_string.specs.Names.{spelt, in_space, in_text, Out, Named, done, whole, decoded, more, frag_at, frags_at, name_at, bytes_in, has_room, out_at, read_at, first_start}
 use Rattle.unicode_string.specs.Grammar.{Spells, Meant}
-use Rattle.unicode_string.proofs.Found.{Finds}
 use Rattle.unicode_string.proofs.Frags.{frag-moves, more_within, run-within, run-from}
 use Rattle.unicode_string.proofs.Loops.{frags-end, frags-more}
 use Rattle.unicode_string.proofs.Naming.{name-escape, name-plain, whole-none, whole-some, found_none, found_some}

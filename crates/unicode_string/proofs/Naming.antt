@@ -1,8 +1,7 @@
 -- A name, case by case.
-use Rattle.std.proofs.Common.{◌≡◌, ℕ, zero, suc, ◌+◌, ◌-◌, ◌<◌, ◌≤◌, Bool, true, false, cond, eqb, List, [], ◌∷◌, length, get_or, Some, None, Option, sym, refl, ap, ◌∙◌, subst, arith}
+use Rattle.std.proofs.Common.{◌≡◌, ℕ, ◌-◌, Bool, cond, List, length, get_or, Some, None, sym, ap, ◌∙◌}
 use Rattle.std.proofs.lemmas.Bool.{eq-eqb, ne_eqb}
 use Rattle.errors.specs.declared.reports.ReportKind.TheVariants.{InvalidString}
-use Rattle.unicode_string.specs.declared.Name.{Name}
 use Rattle.unicode_string.specs.Text.{run_end}
 use Rattle.unicode_string.specs.Names.{in_space, in_text, Out, Named, done, note, whole, decoded, frags_at, name_at}
 

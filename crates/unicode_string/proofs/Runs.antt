@@ -1,9 +1,9 @@
 -- How readings follow one another.
-use Rattle.std.proofs.Common.{◌≡◌, ℕ, zero, suc, ◌+◌, ◌<◌, ◌≤◌, List, [], ◌∷◌, ◌++◌, length, set, Some, None, Option, sym, refl, ap, ◌∙◌, subst, append_assoc, append-nil, add-zero, add_assoc, add-suc, arith, length-append}
+use Rattle.std.proofs.Common.{◌≡◌, ℕ, suc, ◌+◌, List, [], ◌∷◌, ◌++◌, length, set, Some, None, Option, sym, refl, ap, ◌∙◌, subst, append-nil, add-zero, add_assoc, arith, length-append}
 use lib.Seq.{sets}
 use Rattle.errors.specs.declared.reports.Report.{Report}
 use Rattle.unicode_string.specs.Names.{Out, done, write, moved, follow, first_start, ◌⨾◌}
-use Rattle.unicode_string.specs.View.{St, grow, Ran, Roomy}
+use Rattle.unicode_string.specs.View.{St, grow, Ran}
 
 sets-append : {X : Type 0} (l : List X) (i : ℕ) (a b : List X) → sets l i (a ++ b) ≡ sets (sets l i a) (i + length a) b
 sets-append l i [] b = rw add-zero refl

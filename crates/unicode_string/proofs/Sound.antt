@@ -1,23 +1,22 @@
 -- What reads as a name without a report, the rules derive.
-use Rattle.std.proofs.Common.{◌≡◌, ℕ, zero, suc, ◌+◌, ◌-◌, ◌*◌, ◌<◌, ◌≤◌, Bool, true, false, cond, not, ◌&&◌, eqb, ltb, leb, ◌⊎◌, List, [], ◌∷◌, ◌++◌, length, get_or, take, drop, Some, None, Option, sym, refl, ap, ◌∙◌, subst, inl, inr, append-nil, add-zero, arith, length-drop, get_or-drop}
-use lib.Utf8.{encode, scalar}
+use Rattle.std.proofs.Common.{◌≡◌, ℕ, zero, suc, ◌+◌, ◌-◌, ◌*◌, ◌<◌, ◌≤◌, Bool, true, false, cond, ◌&&◌, eqb, leb, List, [], ◌∷◌, ◌++◌, length, get_or, take, drop, Some, None, Option, sym, refl, ap, ◌∙◌, subst, inl, inr, append-nil, arith, length-drop, get_or-drop}
 use Rattle.std.proofs.lemmas.List.{get_or_past, nil_from_length}
 use Rattle.std.proofs.lemmas.Bool.{eqb-true, eqb-false, leb-true, eq-eqb, ne_eqb, cases_Bool, cases_eq, cases_lt, and_parts, cond-true, cond-false}
 use Rattle.std.proofs.lemmas.Bool.Decides.{nat_tests}
 use Rattle.unicode_string.specs.declared.Escape.{Escape}
 use Rattle.unicode_string.specs.declared.Digits.{Digits}
 use Rattle.errors.specs.declared.reports.Report.{Report}
-use Rattle.unicode_string.specs.Text.{is_plain, plains, run_end, hex_of, letter_of, digits_at, closed, unicode_at, single, escape_at}
+use Rattle.unicode_string.specs.Text.{is_plain, plains, run_end, hex_of, letter_of, digits_at, closed, unicode_at, escape_at}
 use Rattle.unicode_string.specs.declared.Name.{Name}
-use Rattle.unicode_string.specs.Names.{spelt, in_space, in_text, Out, Named, whole, decoded, name_at, more, literal, escaped, frag_at, frags_at, ◌⨾◌, done}
+use Rattle.unicode_string.specs.Names.{spelt, in_space, in_text, Out, Named, whole, decoded, more, escaped, frag_at, frags_at, done}
 use Rattle.unicode_string.specs.Grammar.{Plain, Run, Letter, Hex, Number, Unicode, Escaped, Fragment, Fragments, Ends, Spells}
 use Rattle.unicode_string.proofs.Found.{Sound-names}
 use Rattle.unicode_string.proofs.Numbers.{digits-stop, digits-on}
 use Rattle.unicode_string.proofs.Escapes.{opened, unopened, unicoded, lettered}
 use Rattle.unicode_string.proofs.Frags.{run-from, frag-plain, frag-escape, digits-far, within, closed_parts, some-single, plain-moves, escape-sized, more_within, run-within, frag-moves}
 use Rattle.unicode_string.proofs.Loops.{frags-end, frags-more, fueled}
-use Rattle.unicode_string.proofs.Naming.{name-escape, name-plain, whole-none, whole-some, no_name, text_name, found_none}
-use Rattle.unicode_string.proofs.Ends.{run-here, run_on}
+use Rattle.unicode_string.proofs.Naming.{name-escape, name-plain, whole-none, whole-some, found_none}
+use Rattle.unicode_string.proofs.Ends.{run-here}
 
 pub plain-from : (b : ℕ) → is_plain b ≡ true → Plain b
 plain-from b e = record { comma = λ h. grind (arith, nat_tests); close = λ h. grind (arith, nat_tests); backslash = λ h. grind (arith, nat_tests) }

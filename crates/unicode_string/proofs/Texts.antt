@@ -1,10 +1,10 @@
 -- Names of a well-formed text are well formed.
-use Rattle.std.proofs.Common.{◌≡◌, ℕ, zero, suc, ◌+◌, ◌-◌, ◌<◌, ◌≤◌, Bool, true, false, ◌⊎◌, List, [], ◌∷◌, ◌++◌, length, get_or, take, drop, IsUtf8, sym, refl, ap, ◌∙◌, subst, inl, inr, arith}
-use lib.Utf8.{encode, scalar, low_scalar}
+use Rattle.std.proofs.Common.{◌≡◌, ℕ, ◌+◌, ◌-◌, ◌<◌, true, List, length, get_or, take, drop, IsUtf8, sym, subst, inl, inr, arith}
+use lib.Utf8.{scalar, low_scalar}
 use Rattle.std.specs.Str.{IsCharBoundary}
 use Rattle.std.proofs.lemmas.Str.{IsUtf8-between, IsUtf8-encode, IsUtf8-append, IsUtf8-nil, IsCharBoundary-end, IsCharBoundary-before_ascii, IsCharBoundary-after_ascii}
 use Rattle.std.proofs.lemmas.Bool.{cases_eq, cases_lt}
-use Rattle.unicode_string.specs.Grammar.{Plain, Run, Letter, Unicode, Escaped, Fragment, Fragments, Spells}
+use Rattle.unicode_string.specs.Grammar.{Plain, Run, Letter, Escaped, Fragment, Fragments}
 use Rattle.unicode_string.proofs.Found.{Text-names}
 
 stop-low : (b : ℕ) → (Plain b → ⊥) → b < 128

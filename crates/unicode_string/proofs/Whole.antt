@@ -1,14 +1,11 @@
 -- What the rules derive, is read so, without a report.
-use Rattle.std.proofs.Common.{◌≡◌, ℕ, zero, suc, ◌+◌, ◌-◌, ◌*◌, ◌<◌, ◌≤◌, Bool, true, false, cond, not, ◌&&◌, eqb, ltb, leb, ◌⊎◌, List, [], ◌∷◌, ◌++◌, length, get_or, take, drop, Some, None, Option, sym, refl, ap, ◌∙◌, subst, inl, inr, append-nil, add-zero, arith}
-use lib.Utf8.{encode, scalar}
-use Rattle.std.proofs.lemmas.Bool.{eq-eqb, ne_eqb, lt-ltb, cases_eq, cases_lt}
+use Rattle.std.proofs.Common.{◌≡◌, ℕ, zero, suc, ◌+◌, ◌-◌, ◌*◌, ◌<◌, ◌≤◌, true, false, List, ◌++◌, length, get_or, take, drop, Some, sym, refl, ap, ◌∙◌, subst, inl, inr, append-nil, add-zero, arith}
+use Rattle.std.proofs.lemmas.Bool.{ne_eqb, lt-ltb, cases_eq, cases_lt}
 use Rattle.std.proofs.lemmas.Bool.Decides.{nat_tests}
 use Rattle.unicode_string.specs.declared.Escape.{Escape}
-use Rattle.unicode_string.specs.declared.Digits.{Digits}
-use Rattle.unicode_string.specs.declared.Name.{Name}
-use Rattle.unicode_string.specs.Text.{is_plain, run_end, hex_of, letter_of, digits_at, closed, unicode_at, single, escape_at}
-use Rattle.unicode_string.specs.Names.{spelt, in_space, in_text, Out, Named, whole, decoded, write, done, name_at, more, literal, escaped, frag_at, frags_at, ◌⨾◌}
-use Rattle.unicode_string.specs.Grammar.{Plain, Run, Letter, Hex, Number, Unicode, Escaped, Fragment, Fragments, Ends, Spells}
+use Rattle.unicode_string.specs.Text.{is_plain, run_end, hex_of, letter_of, digits_at, closed, unicode_at, escape_at}
+use Rattle.unicode_string.specs.Names.{spelt, in_space, in_text, Out, Named, whole, decoded, write, done, name_at, more, escaped, frag_at, frags_at, ◌⨾◌}
+use Rattle.unicode_string.specs.Grammar.{Plain, Run, Letter, Hex, Number, Unicode, Escaped, Fragment, Fragments, Ends}
 use Rattle.unicode_string.proofs.Found.{Finds, Whole-names, One-name}
 use Rattle.unicode_string.proofs.Numbers.{digits-stop, digits-on, read}
 use Rattle.unicode_string.proofs.Escapes.{opened, unicoded, lettered, closes}

@@ -1,5 +1,5 @@
 -- Which part of a text spells which bytes as a name: rules over parts from i up to j, with no cursor.
-use Rattle.std.specs.Prelude.{◌≡◌, ℕ, ◌+◌, ◌-◌, ◌*◌, ◌<◌, ◌≤◌, true, ◌⊎◌, List, [], ◌∷◌, ◌++◌, length, Some, None, IsUtf8, slice_index, slice_index_or, slice_range}
+use Rattle.std.specs.Prelude.{◌≡◌, ℕ, ◌+◌, ◌-◌, ◌*◌, ◌<◌, ◌≤◌, true, ◌⊎◌, List, [], ◌++◌, length, Some, None, IsUtf8, slice_index, slice_index_or, slice_range}
 use Rattle.std.proofs.Math.Utf8.{encode, scalar}
 use Rattle.std.specs.Str.{IsCharBoundary}
 use Rattle.unicode_string.specs.declared.Name.{Name}

@@ -1,5 +1,5 @@
 -- What stands at a place of a text: a run, an escape, a digit.
-use Rattle.std.specs.Prelude.{◌≡◌, ℕ, zero, suc, ◌+◌, ◌-◌, ◌*◌, Bool, true, false, cond, not, ◌&&◌, ◌||◌, List, [], ◌∷◌, length, drop, Some, None, Option, ◌==◌, nat_le, slice_index}
+use Rattle.std.specs.Prelude.{ℕ, zero, suc, ◌+◌, ◌-◌, ◌*◌, Bool, cond, not, ◌&&◌, ◌||◌, List, [], ◌∷◌, drop, Some, None, Option, ◌==◌, nat_le, slice_index}
 use Rattle.std.proofs.Math.Utf8.{scalar}
 use Rattle.unicode_string.specs.declared.Escape.{Escape}
 use Rattle.unicode_string.specs.declared.Digits.{Digits}

@@ -1,5 +1,5 @@
 -- A cursor as a plain state, and what a reading makes of it.
-use Rattle.std.specs.Prelude.{◌≡◌, ℕ, ◌+◌, ◌-◌, ◌^◌, ◌<◌, ◌≤◌, List, ◌++◌, length, Option}
+use Rattle.std.specs.Prelude.{◌≡◌, ℕ, ◌+◌, ◌-◌, ◌^◌, ◌<◌, ◌≤◌, List, length, Option}
 use Rattle.std.proofs.lemmas.List.Edits.{sets}
 use Rattle.unicode_string.specs.declared.Cursor.{Cursor}
 use Rattle.errors.specs.declared.reports.Report.{Report}

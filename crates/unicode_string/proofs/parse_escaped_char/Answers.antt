@@ -1,4 +1,4 @@
-use Rattle.std.proofs.Common.{◌≡◌, sym, ◌∙◌, rules}
+use Rattle.std.proofs.Common.{sym, ◌∙◌}
 use Rattle.unicode_string.proofs.Escapes.{nothing, unicoded, lettered}
 use Rattle.unicode_string.proofs.parse_escaped_char.Goals as goal
 

@@ -1,4 +1,4 @@
-use Rattle.std.proofs.Common.{◌≡◌, sym, rules}
+use Rattle.std.proofs.Common.{sym, rules}
 use Rattle.unicode_string.proofs.Meanings.{meant, read_is, reports-are, bytes-are}
 use Rattle.unicode_string.proofs.parse_string.Goals as goal
 

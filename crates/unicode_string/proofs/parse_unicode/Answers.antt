@@ -1,4 +1,4 @@
-use Rattle.std.proofs.Common.{◌≡◌, ◌∙◌, arith, rules}
+use Rattle.std.proofs.Common.{◌∙◌, arith}
 use Rattle.unicode_string.proofs.Escapes.{unopened, opened, past, no_digit, no-close, no-scalar, closes}
 use Rattle.unicode_string.proofs.parse_unicode.Goals as goal
 use Rattle.unicode_string.proofs.parse_unicode.Goals.{then-at-text-via-then-at-text, then-at-text-via-else-at-text+then-text-at-ne123, then-d-eq6-via-then-d-eq6, then-d-eq6-via-else-d-eq6+then-d-text, then-d-eq6-via-else-d-eq6+else-d-text+then-text-d-ne125}

@@ -1,7 +1,6 @@
-use Rattle.std.proofs.Common.{◌≡◌, ℕ, ◌-◌, List, length, get_or, Some, sym, ap, ◌∙◌, subst, add-zero, arith}
-use Rattle.unicode_string.specs.Text.{run_end}
-use Rattle.unicode_string.specs.Names.{Out, Named, whole, frags_at, name_at}
-use Rattle.unicode_string.specs.View.{St, view, Ran}
+use Rattle.std.proofs.Common.{◌≡◌, ℕ, length, get_or, sym, ap, ◌∙◌, subst, add-zero, arith}
+use Rattle.unicode_string.specs.Names.{Named, whole, frags_at}
+use Rattle.unicode_string.specs.View.{view, Ran}
 use Rattle.unicode_string.proofs.Runs.{move_to, count-is, used-is}
 use Rattle.unicode_string.proofs.Escapes.{past}
 use Rattle.unicode_string.proofs.Naming.{name-escape, name-plain, whole-none, whole-some, found_none, found_some}

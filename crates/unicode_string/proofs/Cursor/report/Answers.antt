@@ -1,4 +1,4 @@
-use Rattle.std.proofs.Common.{◌≡◌, ◌+◌, sym, ap, ◌∙◌, subst, add-zero}
+use Rattle.std.proofs.Common.{◌+◌, ap, ◌∙◌, add-zero}
 use Rattle.std.proofs.lemmas.List.{set_past}
 use Rattle.unicode_string.specs.declared.Cursor.{Cursor}
 use Rattle.unicode_string.specs.View.{St, view}
