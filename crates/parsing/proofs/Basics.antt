@@ -1,5 +1,5 @@
 -- A basic, case by case.
-use Rattle.std.proofs.Common.{◌≡◌, ℕ, zero, suc, ◌+◌, ◌-◌, List, [], ◌∷◌, ◌++◌, length, Some, None, Ok, Err, Option, Result, sym, refl, ap, ◌∙◌, subst, arith}
+use Rattle.std.proofs.Common.{◌≡◌, ℕ, zero, suc, ◌+◌, ◌-◌, List, length, Some, None, Option, Result, sym, refl, ap, ◌∙◌, arith}
 use Rattle.errors.specs.declared.reports.ReportKind.{ReportKind}
 use Rattle.errors.specs.declared.reports.ReportKind.TheVariants.{ExpectedExpr}
 use Rattle.errors.specs.declared.faults.ReadingFault.{ReadingFault}
@@ -10,7 +10,7 @@ use Rattle.parsing.specs.declared.words.Opening.{Opening}
 use Rattle.parsing.specs.Tree.{Tree}
 use Rattle.parsing.specs.Text.{skip}
 use Rattle.parsing.specs.Words.{opening_at}
-use Rattle.parsing.specs.Reading.{At, Out, Called, ◌⨾◌, done, moved, note, told, report_of, part, set_at, Under, deepest, within, under_at, operand_for, operand_by, operand_at, basic_at}
+use Rattle.parsing.specs.Reading.{At, Out, Called, ◌⨾◌, moved, note, told, report_of, part, set_at, deepest, within, under_at, operand_for, operand_by, operand_at, basic_at}
 use Rattle.parsing.specs.View.{St}
 use Rattle.parsing.proofs.Runs.{Got, got-then, got-moved, got-by, move_to}
 

@@ -7,11 +7,10 @@ use Rattle.parsing.specs.declared.nodes.ParsedNode.{ParsedNode}
 use Rattle.parsing.specs.declared.nodes.ParsedNode.TheVariants as node
 use Rattle.parsing.specs.Tree.{Tree, Word, postfix}
 use Rattle.parsing.specs.Nodes.{node_of, nodes_of}
-use Rattle.parsing.specs.Reading.{At, Out, Called, done, onward, joined_at, chain_at, ◌⨾◌}
-use Rattle.parsing.specs.View.{St, view, held, Kept}
-use Rattle.parsing.proofs.Runs.{Got, got-then, got-stop, got-done, got-by}
+use Rattle.parsing.specs.Reading.{At, Out, Called, done, joined_at, chain_at}
+use Rattle.parsing.specs.View.{St, view, held}
+use Rattle.parsing.proofs.Runs.{Got, got-then, got-stop, got-done}
 use Rattle.parsing.proofs.Trees.{Grown}
-use Rattle.parsing.proofs.Sets.{same_nodes}
 
 map-append : (a b : List (Word Called)) → map node_of (a ++ b) ≡ map node_of a ++ map node_of b
 map-append [] b = refl

@@ -1,21 +1,21 @@
 -- The argument of a set: blanks, a mark or none, and a name.
-use Rattle.std.proofs.Common.{◌≡◌, ℕ, zero, suc, ◌+◌, ◌-◌, ◌<◌, ◌≤◌, Bool, true, false, cond, ◌&&◌, eqb, ltb, ◌⊎◌, List, [], ◌∷◌, ◌++◌, length, get_or, take, drop, Some, None, Ok, Err, codes, Option, sym, refl, ap, ◌∙◌, subst, inl, inr, ⊎_elim, add-zero, arith}
+use Rattle.std.proofs.Common.{◌≡◌, ℕ, ◌+◌, ◌<◌, ◌≤◌, Bool, true, false, cond, eqb, ltb, List, [], ◌∷◌, length, get_or, drop, Some, codes, Option, sym, refl, ap, ◌∙◌, subst, add-zero, arith}
 use Rattle.std.proofs.lemmas.List.{drop_more}
-use Rattle.std.proofs.lemmas.Bool.{ne_eqb, eq-eqb, eqb-true, ltb-true, lt-ltb, and_parts, and_from, both_ways}
+use Rattle.std.proofs.lemmas.Bool.{ne_eqb, eq-eqb, ltb-true, lt-ltb, and_parts, and_from, both_ways}
 use Rattle.unicode_string.specs.Grammar.{Spells}
 use Rattle.parsing.specs.declared.nodes.Predicate.{Predicate}
 use Rattle.expression.specs.declared.name_matcher.MatchKind.{MatchKind}
 use Rattle.expression.specs.declared.name_matcher.MatchKind.TheVariants.{Equal, Contains, Glob}
 use Rattle.parsing.specs.declared.words.Mark.{Mark}
 use Rattle.parsing.specs.declared.words.Mark.TheVariants as mark
-use Rattle.parsing.specs.Grammar.{Blank, Blanks, NoBlank, Stands, Unmarked, Argument}
-use Rattle.parsing.specs.Reading.{At, Out, after, Called, Matched, matcher_at, argument_for, argument_at, moved, halt, ◌⨾◌}
+use Rattle.parsing.specs.Grammar.{Blank, Blanks, NoBlank, Stands, Argument}
+use Rattle.parsing.specs.Reading.{At, Out, after, Called, Matched, matcher_at, argument_for, argument_at, moved, ◌⨾◌}
 use Rattle.parsing.specs.Text.{is_at, skip}
 use Rattle.parsing.specs.Words.{usual, mark_at}
 use Rattle.parsing.proofs.LawBlanks.{inside, skip-blanks, skip-stops, blanks-end, blanks-on, head_at}
-use Rattle.parsing.proofs.LawNames.{FineBy, Matcher, matcher-sound, Matching, matcher-whole, spells-on}
-use Rattle.parsing.proofs.LawRuns.{Reads, reads_then, Clean, Split, clean-then}
-use Rattle.parsing.proofs.LawWords.{prefix_of, prefix-stands, stands-rest}
+use Rattle.parsing.proofs.LawNames.{FineBy, matcher-sound, matcher-whole, spells-on}
+use Rattle.parsing.proofs.LawRuns.{Reads, reads_then, Clean, clean-then}
+use Rattle.parsing.proofs.LawWords.{prefix-stands, stands-rest}
 
 -- one byte that stands at a place
 pub at-stands : (t : List ℕ) (p b : ℕ) → is_at t p b ≡ true → Stands t (b ∷ []) p (p + 1)

@@ -1,5 +1,5 @@
 -- What the reading call answers and leaves is what the grammar says.
-use Rattle.std.proofs.Common.{◌≡◌, ℕ, ◌+◌, ◌<◌, ◌≤◌, Bool, true, false, cond, ltb, ◌⊎◌, List, [], ◌∷◌, map, length, is_ok, Some, Ok, Err, Result, sym, refl, ap, ◌∙◌, subst, inl, inr, arith}
+use Rattle.std.proofs.Common.{◌≡◌, ℕ, ◌≤◌, Bool, true, false, cond, List, [], ◌∷◌, map, length, is_ok, Ok, Err, Result, sym, refl, ap, ◌∙◌, subst, inl, inr, arith}
 use lib.Seq.{sets}
 use Rattle.std.proofs.lemmas.Bool.{le-ltb, cases_lt, lt-ltb}
 use Rattle.errors.specs.declared.reports.Report.{Report}
@@ -7,12 +7,11 @@ use Rattle.errors.specs.declared.faults.TextFault.TheVariants.{Long}
 use Rattle.errors.specs.declared.faults.ReadingFault.{ReadingFault}
 use Rattle.errors.specs.declared.faults.ReadingFault.TheVariants.{Text}
 use Rattle.parsing.specs.declared.nodes.ParsedNode.{ParsedNode}
-use Rattle.parsing.specs.Grammar.{Filter, Fine}
-use Rattle.parsing.specs.Law.{Law, Says, Said}
+use Rattle.parsing.specs.Law.{Law, Says}
 use Rattle.parsing.specs.Nodes.{nodes_of, word_in}
 use Rattle.parsing.specs.Outcome.{answer_by, answer_for, answer_of, is_long, nodes_left, space_of, tree_of, zeros}
-use Rattle.parsing.specs.Reading.{Out, Called, reading_of}
-use Rattle.parsing.specs.Tree.{Tree, postfix}
+use Rattle.parsing.specs.Reading.{Called, reading_of}
+use Rattle.parsing.specs.Tree.{Tree}
 use Rattle.parsing.proofs.LawRuns.{Clean}
 use Rattle.parsing.proofs.LawSound.{bytes_tree, reading-sound}
 use Rattle.parsing.proofs.LawUnique.{one-tree}

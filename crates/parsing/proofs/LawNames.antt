@@ -1,12 +1,12 @@
 -- Names in the reading of a filter are the names of the rules.
-use Rattle.std.proofs.Common.{◌≡◌, ℕ, zero, suc, ◌+◌, ◌-◌, ◌<◌, ◌≤◌, Bool, true, false, cond, eqb, ◌⊎◌, List, [], ◌∷◌, ◌++◌, length, get_or, take, drop, is_some, Some, None, Ok, Err, Option, sym, refl, ap, ◌∙◌, subst, inl, inr, ⊎_elim, add-zero, arith}
-use Rattle.std.proofs.lemmas.Bool.{ne_eqb, eqb-true, cases_Bool}
+use Rattle.std.proofs.Common.{◌≡◌, ℕ, ◌-◌, ◌<◌, ◌≤◌, Bool, true, false, cond, List, [], length, get_or, is_some, Some, None, Ok, Option, sym, refl, ap, ◌∙◌, subst, ⊎_elim, add-zero, arith}
+use Rattle.std.proofs.lemmas.Bool.{ne_eqb}
 use Rattle.errors.specs.declared.reports.ReportKind.TheVariants.{InvalidGlob}
 use Rattle.glob.specs.Glob.{WellFormed}
 use Rattle.glob.specs.Reading.{items_of}
 use Rattle.glob.proofs.Spelling.{well-formed-is}
 use Rattle.unicode_string.specs.declared.Name.{Name}
-use Rattle.unicode_string.specs.Grammar.{Fragment, Fragments, Escaped, Spells, Ends}
+use Rattle.unicode_string.specs.Grammar.{Fragment, Fragments, Escaped, Spells}
 use Rattle.unicode_string.specs.Names.{Named, spelt, name_at, in_text}
 use Rattle.unicode_string.proofs.Meanings.{told}
 use Rattle.unicode_string.proofs.Sound.{sound-names}
@@ -16,7 +16,7 @@ use Rattle.expression.specs.declared.name_matcher.MatchKind.TheVariants.{Equal, 
 use Rattle.parsing.specs.Grammar.{Blank, NoBlank}
 use Rattle.parsing.specs.Reading.{At, Out, after, Called, called_as, called, text_at, checked, Matched, matched_by, matcher_at, done, note, report_of, ◌⨾◌}
 use Rattle.parsing.proofs.LawBlanks.{inside}
-use Rattle.parsing.proofs.LawRuns.{Reads, reads_then, Clean, Split, clean-then}
+use Rattle.parsing.proofs.LawRuns.{Reads, reads_then, Clean, clean-then}
 
 frag-on : (t : List ℕ) (i j : ℕ) (b : List ℕ) → Fragment t i j b → (i < j) × (j ≤ length t)
 frag-on t i j b (Fragment.literal r) = (r.order, r.within)

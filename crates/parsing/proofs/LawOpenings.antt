@@ -1,5 +1,5 @@
 -- What an operand begins with, and what joins operands: the words of the rules are found, and what is found is a word of the rules.
-use Rattle.std.proofs.Common.{◌≡◌, ℕ, suc, ◌+◌, ◌-◌, ◌<◌, ◌≤◌, Bool, true, false, cond, not, ◌&&◌, eqb, ltb, List, [], ◌∷◌, ◌++◌, length, get_or, take, drop, Some, None, codes, Option, sym, refl, ap, ◌∙◌, subst, arith}
+use Rattle.std.proofs.Common.{◌≡◌, ℕ, ◌+◌, true, false, ◌&&◌, List, [], ◌∷◌, ◌++◌, length, get_or, drop, Some, None, codes, Option, sym, refl, ap, ◌∙◌, subst, arith}
 use Rattle.std.proofs.lemmas.List.{get_or-drop}
 use Rattle.std.proofs.lemmas.Bool.{ne_eqb}
 use Rattle.errors.specs.declared.reports.ReportKind.{ReportKind}
@@ -10,7 +10,6 @@ use Rattle.parsing.specs.declared.nodes.Operator.{Operator}
 use Rattle.parsing.specs.declared.nodes.Operator.TheVariants.{Union, Intersection, Difference}
 use Rattle.parsing.specs.declared.words.Nullary.{Nullary}
 use Rattle.parsing.specs.declared.words.Nullary.TheVariants as nullary
-use Rattle.parsing.specs.declared.words.SetName.{SetName}
 use Rattle.parsing.specs.declared.words.SetName.TheVariants as sets
 use Rattle.parsing.specs.declared.words.Lead.{Lead}
 use Rattle.parsing.specs.declared.words.Lead.TheVariants as lead
@@ -18,7 +17,7 @@ use Rattle.parsing.specs.declared.words.Opening.{Opening}
 use Rattle.parsing.specs.declared.words.Sign.{Sign}
 use Rattle.parsing.specs.Words.{Entry, name_of, nullary_name, set_entries, sign_entries, or_entries, and_entries, Joins, opening, or_else, opening_at, sign, or_sign_at, and_sign_at}
 use Rattle.parsing.specs.Grammar.{Stands, Keyword, NotSign, AndSign, OrSign}
-use Rattle.parsing.proofs.LawWords.{prefix_of, first_on, first_on_lem, stands-rest, prefix-stands, Found, Each, first-sound}
+use Rattle.parsing.proofs.LawWords.{prefix_of, first_on, first_on_lem, prefix-stands, Found, Each, first-sound}
 
 abbrev pub opening_on : List ℕ → Option Opening
 opening_on s = or_else (opening (first_on set_entries s)) (opening (first_on sign_entries s))

@@ -1,12 +1,11 @@
 -- Where the rules lead: every rule takes bytes, stays in the text, and begins with a byte that tells it apart.
-use Rattle.std.proofs.Common.{◌≡◌, ℕ, zero, suc, ◌+◌, ◌-◌, ◌<◌, ◌≤◌, List, [], ◌∷◌, ◌++◌, length, get_or, take, drop, codes, sym, refl, ap, ◌∙◌, subst, add-zero, arith}
+use Rattle.std.proofs.Common.{◌≡◌, ℕ, ◌<◌, ◌≤◌, List, [], ◌∷◌, ◌++◌, length, get_or, drop, sym, ap, ◌∙◌, add-zero, arith}
 use Rattle.std.proofs.lemmas.List.{get_or-drop}
-use Rattle.unicode_string.specs.Grammar.{Spells}
 use Rattle.parsing.specs.declared.nodes.Predicate.{Predicate}
 use Rattle.parsing.specs.declared.nodes.Predicate.TheVariants.{Package, Deps, Rdeps, Kind, BinaryId, Binary, Test, Group}
 use Rattle.expression.specs.declared.name_matcher.MatchKind.{MatchKind}
 use Rattle.parsing.specs.declared.nodes.Operator.{Operator}
-use Rattle.parsing.specs.Grammar.{Blank, Blanks, NoBlank, Stands, Keyword, NotSign, AndSign, OrSign, Open, Nothing, Argument, Set, Basic, AndExpr, OrExpr}
+use Rattle.parsing.specs.Grammar.{Blank, Blanks, NoBlank, Stands, NotSign, AndSign, OrSign, Open, Nothing, Argument, Set, Basic, AndExpr, OrExpr}
 use Rattle.parsing.specs.Tree.{Leaf, Tree}
 use Rattle.parsing.specs.Words.{name_of}
 use Rattle.parsing.proofs.LawArguments.{no-blank}

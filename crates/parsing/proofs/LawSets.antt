@@ -1,11 +1,11 @@
 -- Sets: those that are read without a report are the sets of the rules, and those of the rules are read.
-use Rattle.std.proofs.Common.{◌≡◌, ℕ, zero, suc, ◌+◌, ◌-◌, ◌<◌, ◌≤◌, Bool, true, false, cond, ◌&&◌, eqb, ltb, ◌⊎◌, List, [], ◌∷◌, ◌++◌, length, get_or, take, drop, Some, None, Ok, Err, codes, Option, sym, refl, ap, ◌∙◌, subst, inl, inr, ⊎_elim, add-zero, arith}
+use Rattle.std.proofs.Common.{◌≡◌, ℕ, zero, suc, ◌+◌, ◌-◌, ◌<◌, ◌≤◌, Bool, true, false, cond, eqb, List, [], ◌∷◌, length, get_or, take, drop, Some, None, codes, Option, sym, refl, ap, ◌∙◌, subst, ⊎_elim, add-zero, arith}
 use Rattle.std.proofs.lemmas.List.{length-drop, length-take-le, get_or-drop, get_or-take, get_or_past}
 use Rattle.std.proofs.lemmas.Str.{NoCharPasses-byte}
 use Rattle.std.specs.Char.{is_not_whitespace}
 use Rattle.std.proofs.lemmas.Bool.{ne_eqb, eq-eqb, eqb-true, cases_Bool, cases_lt, both_ways}
 use Rattle.errors.specs.declared.reports.ReportKind.{ReportKind}
-use Rattle.errors.specs.declared.reports.ReportKind.TheVariants.{UnexpectedArgument, UnexpectedComma, ExpectedOpenParenthesis, ExpectedCloseParenthesis, InvalidPlatformArgument}
+use Rattle.errors.specs.declared.reports.ReportKind.TheVariants.{UnexpectedArgument, UnexpectedComma, ExpectedOpenParenthesis, ExpectedCloseParenthesis}
 use Rattle.glob.specs.declared.place.Place.{Place}
 use Rattle.unicode_string.specs.Grammar.{Spells}
 use Rattle.parsing.specs.declared.nodes.Predicate.{Predicate}
@@ -14,15 +14,15 @@ use Rattle.expression.specs.declared.name_matcher.MatchKind.TheVariants.{Equal, 
 use Rattle.expression.specs.declared.queries.BuildPlatform.{BuildPlatform}
 use Rattle.parsing.specs.declared.words.Nullary.{Nullary}
 use Rattle.parsing.specs.declared.words.Nullary.TheVariants as nullary
-use Rattle.parsing.specs.Grammar.{Blank, Blanks, NoBlank, Stands, Open, White, Nothing, Argument, Set, between, PlatformName}
-use Rattle.parsing.specs.Reading.{At, Out, after, Called, Matched, done, moved, told, note, report_of, expect, text_at, argument_at, comma_at, open_at, close_at, closed_at, matched_leaf, unary_at, platform_of, platform_by, platform_leaf, platform_at, nullary_leaf, all_white, nothing_at, nullary_at, ◌⨾◌}
+use Rattle.parsing.specs.Grammar.{Blanks, NoBlank, Stands, Open, White, Nothing, Argument, Set, between, PlatformName}
+use Rattle.parsing.specs.Reading.{At, Out, after, Called, done, moved, told, note, report_of, expect, text_at, argument_at, comma_at, open_at, close_at, closed_at, matched_leaf, unary_at, platform_of, platform_by, platform_leaf, platform_at, nullary_leaf, all_white, nothing_at, nullary_at, ◌⨾◌}
 use Rattle.parsing.specs.Text.{is_at, skip, unclosed, closing, white_end}
 use Rattle.parsing.specs.Tree.{Leaf, Tree, FineLeaf, renamed_leaf}
 use Rattle.parsing.specs.Words.{usual, name_of, nullary_name}
-use Rattle.parsing.proofs.LawArguments.{at-stands, byte_at, not_at, Byte, stands-byte, no-blank, Argued, argument-sound, Arguing, argument-whole}
-use Rattle.parsing.proofs.LawBlanks.{inside, skip-blanks, skip-stops, blanks-end, blanks-on, head_at, tail_at, none-at}
-use Rattle.parsing.proofs.LawNames.{FineBy, Text, text-sound, Told, text-whole, spells-on, spells-stops}
-use Rattle.parsing.proofs.LawRuns.{Reads, reads_then, Clean, Split, clean-then}
+use Rattle.parsing.proofs.LawArguments.{at-stands, byte_at, stands-byte, no-blank, argument-sound, argument-whole}
+use Rattle.parsing.proofs.LawBlanks.{inside, skip-blanks, skip-stops, blanks-end, blanks-on}
+use Rattle.parsing.proofs.LawNames.{FineBy, text-sound, text-whole, spells-on, spells-stops}
+use Rattle.parsing.proofs.LawRuns.{Reads, reads_then, Clean, clean-then}
 use Rattle.parsing.proofs.LawWhite.{white-sound, white-whole, platform-sound, platform-whole}
 
 abbrev pub bytes_leaf : Leaf Called → Leaf (List ℕ)

@@ -1,10 +1,10 @@
 -- What is read without a report and without a stop, the grammar derives, within the limits.
-use Rattle.std.proofs.Common.{◌≡◌, ℕ, zero, suc, ◌+◌, ◌-◌, ◌<◌, ◌≤◌, max, Bool, true, false, cond, ◌&&◌, eqb, ltb, List, [], ◌∷◌, ◌++◌, length, get_or, take, drop, Some, None, Ok, Err, codes, Option, sym, refl, ap, ◌∙◌, subst, add-zero, arith}
+use Rattle.std.proofs.Common.{◌≡◌, ℕ, zero, suc, ◌+◌, ◌-◌, ◌<◌, ◌≤◌, Bool, true, false, cond, eqb, ltb, List, [], ◌∷◌, length, drop, Some, None, Ok, codes, Option, sym, refl, ap, ◌∙◌, subst, arith}
 use Rattle.std.proofs.lemmas.List.{length-drop, length-take}
 use Rattle.std.proofs.lemmas.Bool.{eqb-true, ltb-true}
 use Rattle.errors.specs.declared.reports.ReportKind.{ReportKind}
-use Rattle.errors.specs.declared.reports.ReportKind.TheVariants.{ExpectedExpr, ExpectedEndOfExpression, ExpectedCloseParenthesis}
-use Rattle.errors.specs.declared.faults.ReadingFault.TheVariants.{Crowded, Deep}
+use Rattle.errors.specs.declared.reports.ReportKind.TheVariants.{ExpectedEndOfExpression, ExpectedCloseParenthesis}
+use Rattle.errors.specs.declared.faults.ReadingFault.TheVariants.{Crowded}
 use Rattle.parsing.specs.declared.nodes.Operator.{Operator}
 use Rattle.parsing.specs.declared.nodes.Operator.TheVariants.{Union}
 use Rattle.parsing.specs.declared.words.SetName.{SetName}
@@ -13,15 +13,15 @@ use Rattle.parsing.specs.declared.words.Lead.{Lead}
 use Rattle.parsing.specs.declared.words.Lead.TheVariants as lead
 use Rattle.parsing.specs.declared.words.Opening.{Opening}
 use Rattle.parsing.specs.declared.words.Sign.{Sign}
-use Rattle.parsing.specs.Grammar.{Blanks, Stands, Keyword, NotSign, AndSign, OrSign, Open, Basic, AndExpr, OrExpr, Filter, Fine}
-use Rattle.parsing.specs.Reading.{At, Out, after, Called, done, moved, note, halt, report_of, part, expect, close_at, set_at, fault_of, sign_for, or_sign, and_sign, onward, joined_at, chain_at, and_with, or_with, Under, deeper, operand_for, operand_by, operand_at, deepest, within, basic_at, and_at, or_at, end_at, filter_at, reading_of, ◌⨾◌}
+use Rattle.parsing.specs.Grammar.{Blanks, Stands, Keyword, NotSign, AndSign, OrSign, Basic, AndExpr, OrExpr, Fine}
+use Rattle.parsing.specs.Reading.{At, Out, after, Called, done, moved, note, halt, report_of, part, close_at, set_at, fault_of, sign_for, or_sign, and_sign, onward, joined_at, chain_at, Under, operand_for, operand_by, operand_at, deepest, within, basic_at, and_at, or_at, end_at, filter_at, reading_of, ◌⨾◌}
 use Rattle.parsing.specs.Text.{skip}
 use Rattle.parsing.specs.Tree.{Tree, nests, parts, GlobsFine, renamed}
 use Rattle.parsing.specs.Words.{opening_at, or_sign_at, and_sign_at, name_of, nullary_name}
-use Rattle.parsing.proofs.LawBlanks.{skip-blanks, blanks-on}
+use Rattle.parsing.proofs.LawBlanks.{skip-blanks}
 use Rattle.parsing.proofs.LawOpenings.{Opens, opening-sound, OrFound, or_sound, AndFound, and_sound}
-use Rattle.parsing.proofs.LawRuns.{Clean, Split, clean-then}
-use Rattle.parsing.proofs.LawSets.{SetRead, unary-sound, platform-set-sound, nullary-sound, Expected, expect-sound}
+use Rattle.parsing.proofs.LawRuns.{Clean, clean-then}
+use Rattle.parsing.proofs.LawSets.{SetRead, unary-sound, platform-set-sound, nullary-sound, expect-sound}
 
 abbrev pub bytes_tree : Tree Called → Tree (List ℕ)
 bytes_tree x = renamed (λ n. n.bytes) x

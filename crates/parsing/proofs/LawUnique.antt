@@ -1,5 +1,5 @@
 -- The grammar is unambiguous: a text has at most one tree, within the limits or not.
-use Rattle.std.proofs.Common.{◌≡◌, ℕ, zero, suc, ◌+◌, ◌-◌, ◌<◌, ◌≤◌, Bool, true, false, cond, List, [], ◌∷◌, ◌++◌, length, get_or, take, drop, Some, None, codes, Option, sym, refl, ap, ◌∙◌, subst, arith}
+use Rattle.std.proofs.Common.{◌≡◌, ℕ, zero, suc, ◌+◌, ◌-◌, ◌≤◌, List, [], ◌∷◌, ◌++◌, length, get_or, take, drop, Some, None, codes, sym, refl, ap, ◌∙◌, subst, arith}
 use Rattle.unicode_string.specs.Grammar.{Spells}
 use Rattle.unicode_string.specs.Text.{is_word}
 use Rattle.unicode_string.proofs.Whole.{one_name}
@@ -8,7 +8,7 @@ use Rattle.expression.specs.declared.name_matcher.MatchKind.{MatchKind}
 use Rattle.expression.specs.declared.name_matcher.MatchKind.TheVariants.{Equal, Contains, Glob}
 use Rattle.expression.specs.declared.queries.BuildPlatform.{BuildPlatform}
 use Rattle.parsing.specs.declared.nodes.Operator.{Operator}
-use Rattle.parsing.specs.declared.nodes.Operator.TheVariants.{Union, Intersection, Difference}
+use Rattle.parsing.specs.declared.nodes.Operator.TheVariants.{Union}
 use Rattle.parsing.specs.declared.words.SetName.{SetName}
 use Rattle.parsing.specs.declared.words.SetName.TheVariants as sets
 use Rattle.parsing.specs.declared.words.Nullary.{Nullary}
@@ -19,16 +19,16 @@ use Rattle.parsing.specs.declared.words.Opening.{Opening}
 use Rattle.parsing.specs.declared.words.Sign.{Sign}
 use Rattle.parsing.specs.declared.words.Mark.{Mark}
 use Rattle.parsing.specs.declared.words.Mark.TheVariants as mark
-use Rattle.parsing.specs.Grammar.{Blank, Blanks, NoBlank, Stands, Keyword, NotSign, AndSign, OrSign, Open, White, Nothing, Argument, Set, Basic, AndExpr, OrExpr, Filter, PlatformName, between}
+use Rattle.parsing.specs.Grammar.{Blanks, NoBlank, Stands, NotSign, AndSign, OrSign, Open, White, Nothing, Argument, Set, Basic, AndExpr, OrExpr, Filter, PlatformName, between}
 use Rattle.parsing.specs.Reading.{platform_of}
 use Rattle.parsing.specs.Text.{skip, closing}
 use Rattle.parsing.specs.Tree.{Leaf, Tree}
 use Rattle.parsing.specs.Words.{opening_at, or_sign_at, and_sign_at, mark_at, name_of, nullary_name, usual}
-use Rattle.parsing.proofs.LawArguments.{Byte, stands-byte, no-blank, mark-of, mark_of, unmarked-of}
-use Rattle.parsing.proofs.LawBlanks.{inside, skip-blanks, blanks-end, blanks-on}
+use Rattle.parsing.proofs.LawArguments.{stands-byte, mark-of, mark_of, unmarked-of}
+use Rattle.parsing.proofs.LawBlanks.{inside, blanks-end, blanks-on}
 use Rattle.parsing.proofs.LawNames.{spells-on}
-use Rattle.parsing.proofs.LawOpenings.{opening_on, opening_on_lem, opens, set-opening, platform-opening, nullary-opening, not-opening, bang-opening, group-opening, or_sign_on, and_sign_on, or-sign-on, and-sign-on, signs, or_word, or-bar, or-plus, and_word, and-mark, and-minus}
-use Rattle.parsing.proofs.LawPlaces.{On, set_to, not-to, and-sign-to, or-sign-to, basic-to, and-to, or-to, open-to, name-to, free, Apart, basic-apart, and-apart, open-byte, first_byte}
+use Rattle.parsing.proofs.LawOpenings.{opening_on, opening_on_lem, opens, set-opening, platform-opening, nullary-opening, not-opening, bang-opening, group-opening, or_sign_on, and_sign_on, or-sign-on, and-sign-on, or_word, or-bar, or-plus, and_word, and-mark, and-minus}
+use Rattle.parsing.proofs.LawPlaces.{not-to, and-sign-to, or-sign-to, basic-to, and-to, or-to, open-to, free, Apart, basic-apart, and-apart, open-byte}
 use Rattle.parsing.proofs.LawSets.{closing-is}
 use Rattle.parsing.proofs.LawWhite.{platform-whole}
 use Rattle.parsing.proofs.LawWhole.{next, name_free, nullary-free, end_none, close-none, or-not-and}

@@ -1,10 +1,10 @@
 -- White space: what is passed over, byte by byte, are the characters of Unicode's White_Space.
-use Rattle.std.proofs.Common.{◌≡◌, ℕ, zero, suc, ◌+◌, ◌-◌, ◌<◌, ◌≤◌, Bool, true, false, cond, not, ◌&&◌, ◌||◌, eqb, ltb, leb, ◌⊎◌, List, [], ◌∷◌, ◌++◌, length, get_or, take, drop, Some, None, codes, Option, sym, refl, ap, ◌∙◌, subst, inl, inr, ⊎_elim, append_assoc, append-nil, add-zero, zero-add, arith}
+use Rattle.std.proofs.Common.{◌≡◌, ℕ, zero, suc, ◌+◌, ◌<◌, ◌≤◌, Bool, true, false, cond, not, ◌&&◌, ◌||◌, eqb, ltb, leb, ◌⊎◌, List, [], ◌∷◌, ◌++◌, length, get_or, drop, Some, None, codes, sym, refl, ap, ◌∙◌, subst, inl, inr, ⊎_elim, append_assoc, append-nil, add-zero, zero-add, arith}
 use lib.Utf8.{encode, encodes}
-use Rattle.std.proofs.lemmas.List.{drop-drop, drop_all, drop_more, take-append-drop, length-drop, length-append, get_or-drop, take_at, drop_at}
-use Rattle.std.proofs.lemmas.Bool.{cases_lt, cases_Bool, cases_eq, eqb-true, eqb-false, eq-eqb, leb-true, ltb-true, le-leb, lt-ltb, or_cases, or_parts, and_parts, and_from, or_left, or_right, both_ways, ne_eqb, and_left, not-false}
-use Rattle.std.proofs.lemmas.Str.{encode_ascii, encode_same, length-encode, len_utf8_bounds, length-le-encodes, NoCharPasses-nil}
-use Rattle.std.specs.Str.{NoCharPasses, NonePass}
+use Rattle.std.proofs.lemmas.List.{drop-drop, drop_all, length-append, get_or-drop, drop_at}
+use Rattle.std.proofs.lemmas.Bool.{cases_eq, eqb-true, eq-eqb, leb-true, ltb-true, or_cases, and_parts, and_from, ne_eqb, and_left, not-false}
+use Rattle.std.proofs.lemmas.Str.{length-encode, len_utf8_bounds, length-le-encodes, NoCharPasses-nil}
+use Rattle.std.specs.Str.{NonePass}
 use Rattle.std.specs.Char.{is_whitespace as white, is_not_whitespace}
 use Rattle.expression.specs.declared.queries.BuildPlatform.{BuildPlatform}
 use Rattle.expression.specs.declared.queries.BuildPlatform.TheVariants.{Host, Target}

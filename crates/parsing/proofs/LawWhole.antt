@@ -1,10 +1,8 @@
 -- What the grammar derives within the limits is read without a report and without a stop, with that tree.
-use Rattle.std.proofs.Common.{◌≡◌, ℕ, zero, suc, ◌+◌, ◌-◌, ◌<◌, ◌≤◌, max, Bool, true, false, cond, ◌&&◌, eqb, ltb, ◌⊎◌, List, [], ◌∷◌, ◌++◌, length, get_or, take, drop, Some, None, Ok, Err, codes, Option, sym, refl, ap, ◌∙◌, subst, inl, inr, ⊎_elim, add-zero, zero-add, arith}
+use Rattle.std.proofs.Common.{◌≡◌, ℕ, zero, suc, ◌+◌, ◌<◌, ◌≤◌, List, [], ◌++◌, length, get_or, drop, Some, None, Ok, codes, Option, sym, refl, ap, ◌∙◌, subst, add-zero, zero-add, arith}
 use Rattle.std.proofs.lemmas.List.{drop_all, get_or-drop, get_or_past}
 use Rattle.std.proofs.lemmas.Bool.{eq-eqb, lt-ltb}
-use Rattle.errors.specs.declared.reports.ReportKind.{ReportKind}
-use Rattle.errors.specs.declared.reports.ReportKind.TheVariants.{ExpectedExpr, ExpectedEndOfExpression, ExpectedCloseParenthesis}
-use Rattle.errors.specs.declared.faults.ReadingFault.TheVariants.{Crowded, Deep}
+use Rattle.errors.specs.declared.reports.ReportKind.TheVariants.{ExpectedCloseParenthesis}
 use Rattle.unicode_string.specs.Text.{is_word}
 use Rattle.parsing.specs.declared.nodes.Predicate.{Predicate}
 use Rattle.parsing.specs.declared.nodes.Predicate.TheVariants.{Package, Deps, Rdeps, Kind, BinaryId, Binary, Test, Group}
@@ -18,18 +16,18 @@ use Rattle.parsing.specs.declared.words.Lead.{Lead}
 use Rattle.parsing.specs.declared.words.Lead.TheVariants as lead
 use Rattle.parsing.specs.declared.words.Opening.{Opening}
 use Rattle.parsing.specs.declared.words.Sign.{Sign}
-use Rattle.parsing.specs.Grammar.{Blank, Blanks, NoBlank, Stands, Keyword, NotSign, AndSign, OrSign, Open, Nothing, Set, Basic, AndExpr, OrExpr, Filter, Fine, between}
-use Rattle.parsing.specs.Reading.{At, Out, after, Called, done, moved, note, halt, report_of, part, expect, close_at, set_at, fault_of, sign_for, or_sign, and_sign, onward, joined_at, chain_at, and_with, or_with, Under, operand_for, operand_by, operand_at, deepest, within, basic_at, and_at, or_at, end_at, filter_at, reading_of, unary_at, platform_at, nullary_at, nullary_leaf, ◌⨾◌}
+use Rattle.parsing.specs.Grammar.{Blanks, NoBlank, Stands, NotSign, AndSign, OrSign, Open, Nothing, Set, Basic, AndExpr, OrExpr, Fine, between}
+use Rattle.parsing.specs.Reading.{At, Out, after, Called, done, moved, part, close_at, set_at, fault_of, sign_for, or_sign, and_sign, onward, joined_at, chain_at, Under, operand_for, operand_by, operand_at, deepest, within, basic_at, and_at, or_at, end_at, filter_at, reading_of, nullary_leaf, ◌⨾◌}
 use Rattle.parsing.specs.Text.{skip}
-use Rattle.parsing.specs.Tree.{Leaf, Tree, nests, parts, GlobsFine, FineLeaf, renamed}
+use Rattle.parsing.specs.Tree.{Leaf, Tree, nests, parts, GlobsFine, FineLeaf}
 use Rattle.parsing.specs.Words.{opening_at, or_sign_at, and_sign_at, name_of, nullary_name}
-use Rattle.parsing.proofs.LawArguments.{Byte, stands-byte, no-blank}
-use Rattle.parsing.proofs.LawBlanks.{inside, skip-blanks, blanks-end, blanks-on, head_at}
+use Rattle.parsing.proofs.LawArguments.{no-blank}
+use Rattle.parsing.proofs.LawBlanks.{blanks-end, blanks-on}
 use Rattle.parsing.proofs.LawOpenings.{opening_on, opening_on_lem, opens, set-opening, platform-opening, nullary-opening, not-opening, bang-opening, group-opening, or_sign_on, and_sign_on, or-sign-on, and-sign-on, signs, or_word, or-bar, or-plus, and_word, and-mark, and-minus, or-no-and, close-no-sign, end-no-sign}
-use Rattle.parsing.proofs.LawPlaces.{On, set_to, not-to, and-sign-to, or-sign-to, basic-to, and-to, or-to, free, Apart, basic-apart, and-apart, open-byte, open-to}
+use Rattle.parsing.proofs.LawPlaces.{not-to, and-sign-to, or-sign-to, basic-to, and-to, or-to, free, Apart, basic-apart, and-apart, open-byte, open-to}
 use Rattle.parsing.proofs.LawRuns.{Reads, reads_then}
 use Rattle.parsing.proofs.LawSets.{SetReads, unary-whole, platform-set-whole, nullary-whole, expect-whole, bytes_leaf}
-use Rattle.parsing.proofs.LawSound.{bytes_tree, stands_on}
+use Rattle.parsing.proofs.LawSound.{bytes_tree}
 use Rattle.parsing.proofs.LawWords.{stands-rest}
 
 -- the same with another count of parts

@@ -1,11 +1,11 @@
 -- Words at a place of a text, as words at the start of what is left there.
-use Rattle.std.proofs.Common.{◌≡◌, ℕ, suc, ◌+◌, ◌-◌, ◌<◌, ◌≤◌, Bool, true, false, cond, not, ◌&&◌, eqb, ltb, List, [], ◌∷◌, ◌++◌, length, get_or, take, drop, Some, None, codes, Option, sym, refl, ap, ◌∙◌, subst, ⊎_elim, add-zero, arith}
-use Rattle.std.proofs.lemmas.List.{drop_more, drop_all, drop-drop, get_or-drop, take-append-drop, length-drop}
-use Rattle.std.proofs.lemmas.Bool.{cases_lt, lt-ltb, le-ltb, eqb-true, and_parts, and_from, not-true, both_ways}
+use Rattle.std.proofs.Common.{◌≡◌, ℕ, ◌+◌, ◌<◌, ◌≤◌, Bool, true, false, cond, not, ◌&&◌, eqb, List, [], ◌∷◌, ◌++◌, length, get_or, take, drop, Some, None, Option, sym, refl, ap, ◌∙◌, subst, ⊎_elim, arith}
+use Rattle.std.proofs.lemmas.List.{drop_more, drop_all, drop-drop, get_or-drop, take-append-drop}
+use Rattle.std.proofs.lemmas.Bool.{cases_lt, lt-ltb, le-ltb, eqb-true, and_parts, not-true, both_ways}
 use Rattle.unicode_string.specs.Text.{is_word}
-use Rattle.parsing.specs.Text.{begins_at, keyword_at}
+use Rattle.parsing.specs.Text.{begins_at}
 use Rattle.parsing.specs.Words.{Entry, entry_at, first_at}
-use Rattle.parsing.specs.Grammar.{Stands, Keyword}
+use Rattle.parsing.specs.Grammar.{Stands}
 
 -- the word w stands at the start of s
 abbrev pub prefix_of : List ℕ → List ℕ → Bool

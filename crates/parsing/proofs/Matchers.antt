@@ -1,7 +1,5 @@
 -- Names and how they are matched.
-use Rattle.std.proofs.Common.{◌≡◌, ℕ, ◌+◌, ◌-◌, Bool, true, false, cond, ◌⊎◌, List, [], ◌∷◌, ◌++◌, is_some, Some, None, Ok, Err, Option, Result, unwrap_or, sym, refl, ap, ◌∙◌, subst, inl, inr, arith}
-use Rattle.std.specs.Option.{option_map}
-use Rattle.errors.specs.declared.reports.Report.{Report}
+use Rattle.std.proofs.Common.{◌≡◌, ℕ, ◌-◌, Bool, true, false, cond, ◌⊎◌, List, [], is_some, Some, None, Ok, Option, Result, unwrap_or, sym, refl, ap, ◌∙◌, subst, inl, inr, arith}
 use Rattle.errors.specs.declared.reports.ReportKind.TheVariants.{InvalidGlob}
 use Rattle.errors.specs.declared.faults.ReadingFault.{ReadingFault}
 use Rattle.glob.specs.Reading.{items_of}
@@ -9,8 +7,7 @@ use Rattle.unicode_string.specs.declared.Name.{Name}
 use Rattle.unicode_string.specs.Names.{bytes_in}
 use Rattle.expression.specs.declared.name_matcher.MatchKind.{MatchKind}
 use Rattle.expression.specs.declared.name_matcher.MatchKind.TheVariants.{Equal, Contains, Glob}
-use Rattle.parsing.specs.declared.nodes.NameMatcher.{NameMatcher}
-use Rattle.parsing.specs.Reading.{At, Out, Called, Matched, done, note, report_of, checked, matched_by, text_at, matcher_at, ◌⨾◌}
+use Rattle.parsing.specs.Reading.{Out, Called, done, note, report_of, checked, text_at, matcher_at}
 use Rattle.parsing.specs.View.{St, Ran, Spelt, bytes_at, name_only, matcher_only}
 use Rattle.parsing.proofs.Runs.{Got, got-ok, got-then, got-done, got-by, ran-by}
 

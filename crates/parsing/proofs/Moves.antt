@@ -1,5 +1,5 @@
 -- Bounds that the readers keep.
-use Rattle.std.proofs.Common.{◌≡◌, ℕ, ◌+◌, ◌*◌, ◌≤◌, List, length, vec_len, vec_capacity, Vec, sym, refl, ap, ◌∙◌, subst, arith, MutBor}
+use Rattle.std.proofs.Common.{◌≡◌, ℕ, ◌+◌, ◌*◌, ◌≤◌, length, vec_len, vec_capacity, Vec, ap, ◌∙◌, arith, MutBor}
 use Rattle.std.specs.declared.alloc.Global.{Global}
 use Rattle.parsing.specs.declared.nodes.ParsedNode.{ParsedNode}
 use Rattle.parsing.specs.declared.cursor.Cursor.{Cursor}

@@ -1,8 +1,8 @@
 -- What the reading of a name comes to.
-use Rattle.std.proofs.Common.{◌≡◌, ℕ, zero, suc, ◌+◌, ◌-◌, ◌*◌, ◌^◌, ◌<◌, ◌≤◌, Bool, true, false, cond, ◌&&◌, eqb, ltb, leb, ◌⊎◌, List, [], ◌∷◌, ◌++◌, length, get_or, take, drop, Some, None, Ok, Err, Option, Result, sym, refl, ap, ◌∙◌, subst, inl, inr, add-zero, arith, length-append}
+use Rattle.std.proofs.Common.{◌≡◌, ℕ, zero, suc, ◌+◌, ◌-◌, ◌^◌, ◌≤◌, Bool, true, cond, ltb, leb, List, [], ◌∷◌, length, get_or, Some, None, Ok, Option, sym, refl, ap, ◌∙◌, subst, inl, inr, arith, length-append}
 use lib.Seq.{sets}
 use Rattle.std.proofs.lemmas.Bool.{cases_eq, cases_Bool, le-leb, lt-ltb, eq-eqb, ne_eqb}
-use Rattle.std.specs.Option.{option_or, option_map}
+use Rattle.std.specs.Option.{option_or}
 use Rattle.errors.specs.declared.reports.Report.{Report}
 use Rattle.unicode_string.specs.declared.Name.{Name}
 use Rattle.unicode_string.specs.declared.NameRead.{NameRead}
@@ -15,8 +15,8 @@ use Rattle.unicode_string.proofs.Loops.{frags-end, frags-more}
 use Rattle.unicode_string.proofs.Naming.{name-escape, name-plain, whole-none, whole-some}
 use Rattle.unicode_string.proofs.Sound.{sound-names}
 use Rattle.parsing.specs.declared.cursor.Cursor.{Cursor}
-use Rattle.parsing.specs.Reading.{At, Out, Called, called_as, called, text_at}
-use Rattle.parsing.specs.View.{St, view, grow, Sound, Spelt, name_only}
+use Rattle.parsing.specs.Reading.{called_as, called, text_at}
+use Rattle.parsing.specs.View.{St, grow, Sound, Spelt, name_only}
 
 -- how far a name goes, against its bytes and reports
 pub record Far (t : List ℕ) (p : ℕ) (o : names.Out) : Type 0 where

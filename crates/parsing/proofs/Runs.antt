@@ -1,7 +1,6 @@
 -- How readings follow one another.
-use Rattle.std.proofs.Common.{◌≡◌, ℕ, zero, suc, ◌+◌, ◌<◌, ◌≤◌, List, [], ◌∷◌, ◌++◌, length, set, Some, None, Ok, Err, Option, Result, sym, refl, ap, ◌∙◌, subst, append_assoc, append-nil, add-zero, add_assoc, add-suc, arith, length-append}
+use Rattle.std.proofs.Common.{◌≡◌, ℕ, suc, ◌+◌, List, [], ◌∷◌, ◌++◌, length, set, Some, None, Ok, Err, Option, Result, sym, refl, ap, ◌∙◌, subst, add-zero, add_assoc, arith, length-append}
 use lib.Seq.{sets}
-use Rattle.std.specs.Option.{option_or}
 use Rattle.errors.specs.declared.reports.Report.{Report}
 use Rattle.errors.specs.declared.faults.ReadingFault.{ReadingFault}
 use Rattle.unicode_string.specs.Names.{first_start}

@@ -1,5 +1,5 @@
 -- Sets, step by step.
-use Rattle.std.proofs.Common.{◌≡◌, ℕ, ◌+◌, Bool, true, false, cond, List, [], ◌∷◌, ◌++◌, Some, None, Ok, Err, vec_items, Option, Result, Vec, sym, refl, ap, ◌∙◌, subst, append-nil, arith, Bor, MutBor}
+use Rattle.std.proofs.Common.{◌≡◌, ℕ, ◌+◌, Bool, true, false, cond, List, [], ◌++◌, Some, None, Ok, Err, vec_items, Option, Result, Vec, refl, ap, ◌∙◌, arith, Bor, MutBor}
 use lib.Seq.{sets}
 use Rattle.std.specs.declared.alloc.Global.{Global}
 use Rattle.errors.specs.declared.faults.ReadingFault.{ReadingFault}

@@ -1,7 +1,7 @@
 -- The names of a tree that was read stand where its nodes say: in the text, or in a decoding space that holds the decoded bytes.
-use Rattle.std.proofs.Common.{◌≡◌, ℕ, zero, suc, ◌+◌, ◌-◌, ◌<◌, ◌≤◌, Bool, true, false, cond, not, ◌&&◌, eqb, ltb, leb, ◌⊎◌, List, [], ◌∷◌, ◌++◌, map, length, get_or, take, drop, is_some, Some, None, Ok, Err, codes, Option, Result, sym, refl, ap, ◌∙◌, subst, inl, inr, append_assoc, append-nil, add-zero, arith, length-append, take_at, drop_at}
+use Rattle.std.proofs.Common.{◌≡◌, ℕ, zero, suc, ◌+◌, ◌-◌, ◌≤◌, Bool, true, false, cond, not, eqb, ltb, ◌⊎◌, List, [], ◌∷◌, ◌++◌, map, length, get_or, take, drop, is_some, Some, None, Ok, Err, Option, Result, sym, refl, ap, ◌∙◌, subst, inl, inr, append_assoc, arith, length-append, take_at, drop_at}
 use lib.Seq.{sets, sets-eq}
-use Rattle.std.proofs.lemmas.Bool.{cases_Bool, cases_eq, cases_lt, le-leb, le-ltb, and_parts, ltb-true, eq-eqb, ne_eqb}
+use Rattle.std.proofs.lemmas.Bool.{cases_Bool, cases_eq, cases_lt, le-leb, le-ltb, and_parts, ltb-true}
 use Rattle.std.specs.Option.{option_map}
 use Rattle.errors.specs.declared.reports.Report.{Report}
 use Rattle.errors.specs.declared.reports.ReportKind.{ReportKind}
@@ -35,12 +35,12 @@ use Rattle.parsing.specs.declared.words.Mark.{Mark}
 use Rattle.parsing.specs.declared.words.Mark.TheVariants as mark
 use Rattle.parsing.specs.Tree.{Tree, Leaf, Word, postfix, renamed, renamed_leaf}
 use Rattle.parsing.specs.Nodes.{leaf_of, node_of, nodes_of, leaf_in, word_in}
-use Rattle.parsing.specs.Text.{is_at, skip, blanks, closing, unclosed, begins_at, keyword_at}
+use Rattle.parsing.specs.Text.{is_at, skip, closing, begins_at, keyword_at}
 use Rattle.parsing.specs.Words.{Entry, entry_at, first_at, Joins, sign, opening, or_else, set_entries, sign_entries, or_entries, and_entries, opening_at, or_sign_at, and_sign_at, mark_at, usual}
 use Rattle.parsing.specs.Grammar.{between}
-use Rattle.parsing.specs.Reading.{At, Out, after, follow, ◌⨾◌, done, note, told, moved, halt, report_of, part, expect, open_at, close_at, comma_at, closed_at, nothing_at, all_white, Called, called_as, called, text_at, Matched, checked, matched_by, matcher_at, argument_for, argument_at, matched_leaf, unary_at, platform_of, platform_by, platform_leaf, platform_at, nullary_leaf, nullary_at, set_at, fault_of, sign_for, or_sign, and_sign, onward, joined_at, chain_at, and_with, or_with, Under, deepest, within, operand_for, operand_by, operand_at, basic_at, or_at, end_at, filter_at, reading_of}
+use Rattle.parsing.specs.Reading.{At, Out, after, ◌⨾◌, done, note, told, moved, halt, report_of, part, expect, open_at, close_at, comma_at, closed_at, nothing_at, all_white, Called, called_as, text_at, Matched, checked, matched_by, matcher_at, argument_for, argument_at, matched_leaf, unary_at, platform_of, platform_by, platform_leaf, platform_at, nullary_leaf, nullary_at, set_at, fault_of, sign_for, or_sign, and_sign, onward, joined_at, chain_at, and_with, or_with, Under, deepest, within, operand_for, operand_by, operand_at, basic_at, or_at, end_at, filter_at, reading_of}
 use Rattle.parsing.proofs.Fits.{begins-fits}
-use Rattle.parsing.proofs.Naming.{Far, name-far, empty-spelt, name-empty, name-full}
+use Rattle.parsing.proofs.Naming.{name-far, empty-spelt, name-empty, name-full}
 use Rattle.parsing.proofs.Scans.{skip-from, skip-within, closing-from, closing-within}
 use Rattle.parsing.proofs.Runs.{goes, stops}
 

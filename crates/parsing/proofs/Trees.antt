@@ -1,12 +1,11 @@
 -- Readers of trees, at cursors.
-use Rattle.std.proofs.Common.{◌≡◌, ℕ, List, [], ◌∷◌, ◌++◌, Ok, Err, Result, sym, refl, ap, ◌∙◌, subst}
+use Rattle.std.proofs.Common.{◌≡◌, ℕ, List, ◌++◌, Ok, Err, Result, sym, refl, subst}
 use Rattle.errors.specs.declared.faults.ReadingFault.{ReadingFault}
 use Rattle.parsing.specs.declared.cursor.Cursor.{Cursor}
-use Rattle.parsing.specs.declared.nodes.ParsedNode.{ParsedNode}
 use Rattle.parsing.specs.Tree.{Tree}
 use Rattle.parsing.specs.Nodes.{nodes_of}
 use Rattle.parsing.specs.Reading.{At, Out, Called}
-use Rattle.parsing.specs.View.{St, view, Ran, Reads, ReadsTree, Pushed, held, nothing}
+use Rattle.parsing.specs.View.{view, Ran, Reads, ReadsTree, Pushed, held, nothing}
 use Rattle.parsing.proofs.Runs.{Got, got-ok, got-err, ran-by}
 
 -- a reader of the text t

@@ -1,5 +1,5 @@
 -- Which part of a text has which tree: rules over parts from i up to j, with no cursor and no order of tries.
-use Rattle.std.specs.Prelude.{◌≡◌, ℕ, ◌+◌, ◌-◌, ◌≤◌, true, false, List, [], ◌∷◌, ◌++◌, length, take, drop, codes, slice_index, slice_index_or, slice_range}
+use Rattle.std.specs.Prelude.{◌≡◌, ℕ, ◌+◌, ◌-◌, ◌≤◌, false, List, ◌++◌, length, take, drop, codes, slice_index, slice_index_or, slice_range}
 use Rattle.std.specs.Str.{NoCharPasses}
 use Rattle.std.specs.Char.{is_not_whitespace}
 use Rattle.glob.specs.declared.place.Place.{Place}

@@ -1,5 +1,5 @@
 -- The nodes that the code holds: the postfix of a tree, with the names as they were read.
-use Rattle.std.specs.Prelude.{ℕ, List, map, Some, None, Option}
+use Rattle.std.specs.Prelude.{ℕ, List, map, Some, Option}
 use Rattle.std.specs.Option.{option_map}
 use Rattle.unicode_string.specs.Names.{bytes_in}
 use Rattle.parsing.specs.declared.nodes.ParsedLeaf.{ParsedLeaf}

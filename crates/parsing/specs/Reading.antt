@@ -1,5 +1,5 @@
 -- What reading a text gives: from a place, the place after, the reports made, the bytes decoded, and the tree or the fault that stops it.
-use Rattle.std.specs.Prelude.{◌≡◌, ℕ, zero, suc, ◌+◌, ◌-◌, Bool, true, false, cond, ◌&&◌, List, [], ◌∷◌, ◌++◌, length, take, drop, is_some, Some, None, Ok, Err, codes, Option, Result, ◌==◌, nat_lt}
+use Rattle.std.specs.Prelude.{ℕ, zero, suc, ◌+◌, ◌-◌, Bool, cond, ◌&&◌, List, [], ◌∷◌, ◌++◌, length, take, drop, is_some, Some, None, Ok, Err, codes, Option, Result, ◌==◌, nat_lt}
 use Rattle.errors.specs.declared.reports.ReportKind.{ReportKind}
 use Rattle.errors.specs.declared.reports.ReportKind.TheVariants.{InvalidGlob, UnexpectedArgument, UnexpectedComma, ExpectedOpenParenthesis, ExpectedCloseParenthesis, ExpectedExpr, ExpectedEndOfExpression, InvalidPlatformArgument}
 use Rattle.errors.specs.declared.reports.Report.{Report}
@@ -20,7 +20,6 @@ use Rattle.parsing.specs.declared.words.Nullary.{Nullary}
 use Rattle.parsing.specs.declared.words.Nullary.TheVariants as nullary
 use Rattle.parsing.specs.declared.words.SetName.{SetName}
 use Rattle.parsing.specs.declared.words.SetName.TheVariants as sets
-use Rattle.parsing.specs.declared.words.Lead.{Lead}
 use Rattle.parsing.specs.declared.words.Lead.TheVariants as lead
 use Rattle.parsing.specs.declared.words.Opening.{Opening}
 use Rattle.parsing.specs.declared.words.Sign.{Sign}

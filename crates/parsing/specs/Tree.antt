@@ -1,5 +1,5 @@
 -- The tree of a filter: sets, and what joins, negates and brackets them; with the names as N has them.
-use Rattle.std.specs.Prelude.{◌≡◌, ℕ, ◌+◌, max, List, [], ◌∷◌, ◌++◌}
+use Rattle.std.specs.Prelude.{ℕ, ◌+◌, max, List, [], ◌∷◌, ◌++◌}
 use Rattle.glob.specs.declared.place.Place.{Place}
 use Rattle.glob.specs.Glob.{WellFormed}
 use Rattle.parsing.specs.declared.nodes.Predicate.{Predicate}

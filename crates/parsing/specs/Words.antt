@@ -1,5 +1,5 @@
 -- The set names, signs and marks of the language, and which of them stands at a place.
-use Rattle.std.specs.Prelude.{ℕ, Bool, true, false, cond, eqb, List, [], ◌∷◌, ◌++◌, length, get_or, Some, None, codes, Option}
+use Rattle.std.specs.Prelude.{ℕ, Bool, true, false, cond, List, [], ◌∷◌, length, Some, None, codes, Option}
 use Rattle.errors.specs.declared.reports.ReportKind.{ReportKind}
 use Rattle.errors.specs.declared.reports.ReportKind.TheVariants.{InvalidOrOperator, InvalidAndOperator, ExprFoundBinaryOp, ExprFoundUnaryOp}
 use Rattle.parsing.specs.declared.nodes.Predicate.{Predicate}
@@ -10,7 +10,6 @@ use Rattle.parsing.specs.declared.nodes.Operator.{Operator}
 use Rattle.parsing.specs.declared.nodes.Operator.TheVariants.{Union, Intersection, Difference}
 use Rattle.parsing.specs.declared.words.Nullary.{Nullary}
 use Rattle.parsing.specs.declared.words.Nullary.TheVariants as nullary
-use Rattle.parsing.specs.declared.words.SetName.{SetName}
 use Rattle.parsing.specs.declared.words.SetName.TheVariants as sets
 use Rattle.parsing.specs.declared.words.Lead.{Lead}
 use Rattle.parsing.specs.declared.words.Lead.TheVariants as lead

@@ -1,4 +1,4 @@
-use Rattle.std.proofs.Common.{◌≡◌, ℕ, List, [], is_some, Option, unwrap_or, sym, refl, ap, ◌∙◌}
+use Rattle.std.proofs.Common.{ℕ, List, [], is_some, Option, unwrap_or, ap}
 use Rattle.glob.specs.Reading.{items_of, walk}
 use Rattle.parsing.proofs.cursor.is_glob.Goals as goal
 

@@ -1,4 +1,4 @@
-use Rattle.std.proofs.Common.{◌≡◌, ℕ, List, [], Option, unwrap_or, sym, refl, ap, ◌∙◌}
+use Rattle.std.proofs.Common.{ℕ, List, [], Option, unwrap_or, ap, ◌∙◌}
 use Rattle.parsing.specs.Text.{begins_at, whites_at}
 use Rattle.parsing.specs.Reading.{platform_of}
 use Rattle.parsing.proofs.cursor.platform_at.Goals as goal

@@ -1,4 +1,4 @@
-use Rattle.std.proofs.Common.{◌≡◌, ℕ, ◌+◌, Bool, true, false, get_or, sym, ap, ◌∙◌, arith, rules}
+use Rattle.std.proofs.Common.{get_or, sym, ap, ◌∙◌, arith, rules}
 use Rattle.parsing.specs.Text.{is_blank}
 use Rattle.parsing.proofs.Scans.{skip-on, skip-here, skip-end}
 use Rattle.parsing.proofs.text.blanks_end.Goals as goal

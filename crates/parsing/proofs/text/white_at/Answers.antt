@@ -1,4 +1,4 @@
-use Rattle.std.proofs.Common.{◌≡◌, ℕ, ◌+◌, ◌≤◌, length, get_or, sym, ap, ◌∙◌, subst, rules}
+use Rattle.std.proofs.Common.{◌≡◌, ℕ, ◌+◌, get_or, ap, ◌∙◌}
 use Rattle.parsing.specs.Text.{white_of, white_at}
 use Rattle.parsing.proofs.Scans.{white-fits}
 use Rattle.parsing.proofs.text.white_at.Goals as goal

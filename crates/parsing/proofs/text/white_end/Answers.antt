@@ -1,4 +1,4 @@
-use Rattle.std.proofs.Common.{◌≡◌, ℕ, ◌+◌, sym, ap, ◌∙◌, subst, rules}
+use Rattle.std.proofs.Common.{ℕ, ◌+◌, sym, ◌∙◌, subst, rules}
 use Rattle.parsing.proofs.Scans.{ToGo, white-start, white-here, white-past, white-more}
 use Rattle.parsing.proofs.text.white_end.Goals as goal
 

@@ -1,4 +1,4 @@
-use Rattle.std.proofs.Common.{◌≡◌, ℕ, not, sym, ap}
+use Rattle.std.proofs.Common.{ℕ, not, sym, ap}
 use Rattle.std.proofs.lemmas.List.{get_or_past}
 use Rattle.unicode_string.specs.Text.{is_word}
 use Rattle.parsing.proofs.words.word_boundary.Goals as goal

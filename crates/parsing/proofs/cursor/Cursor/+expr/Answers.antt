@@ -1,4 +1,4 @@
-use Rattle.std.proofs.Common.{◌≡◌, ℕ, ◌+◌, ◌-◌, ◌<◌, List, [], ◌∷◌, ◌++◌, length, Some, None, Ok, Err, Option, sym, refl, ap, ◌∙◌, subst, append_assoc, append-nil, arith, rules}
+use Rattle.std.proofs.Common.{◌≡◌, ℕ, ◌+◌, ◌-◌, ◌<◌, List, [], ◌∷◌, ◌++◌, length, Ok, Option, sym, refl, ap, ◌∙◌, subst, append_assoc, append-nil, arith, rules}
 use Rattle.std.proofs.lemmas.Result.{err_from_is_err_and}
 use Rattle.errors.specs.declared.reports.ReportKind.TheVariants.{ExpectedExpr, ExpectedCloseParenthesis}
 use Rattle.errors.specs.declared.faults.ReadingFault.TheVariants.{Deep}
@@ -7,11 +7,11 @@ use Rattle.parsing.specs.declared.nodes.ParsedNode.{ParsedNode}
 use Rattle.parsing.specs.declared.nodes.ParsedNode.TheVariants as node
 use Rattle.parsing.specs.Tree.{Tree}
 use Rattle.parsing.specs.Nodes.{nodes_of}
-use Rattle.parsing.specs.Reading.{At, Out, Called, ◌⨾◌, done, note, told, report_of, part, expect, close_at, set_at, or_sign, and_sign, or_with, Under, under_at, basic_at, and_at, or_at}
-use Rattle.parsing.specs.View.{St, view, held, nothing, Taken, Moved}
+use Rattle.parsing.specs.Reading.{◌⨾◌, done, note, told, report_of, part, expect, close_at, set_at, or_sign, and_sign, Under, under_at, basic_at, and_at, or_at}
+use Rattle.parsing.specs.View.{view, held, nothing, Taken, Moved}
 use Rattle.parsing.proofs.Runs.{Got, got-then, got-stop, got-done, got-by, got_same, got-err, got-halt, got-moved, got-told, re-at}
 use Rattle.parsing.proofs.Moves.{moved-turn}
-use Rattle.parsing.proofs.Trees.{Grown, grown, halted, tree-ok, tree-err}
+use Rattle.parsing.proofs.Trees.{grown, halted, tree-ok, tree-err}
 use Rattle.parsing.proofs.Sets.{same_text, same_nodes}
 use Rattle.parsing.proofs.Chains.{ToGo, togo-start, togo-end, togo-stop, togo-break, togo-more, chain-stop, chain-then, nodes-negated, nodes-group}
 use Rattle.parsing.proofs.Basics.{under-zero, under_more, basic-none, basic-set, basic-not, basic-group, basic-misplaced}

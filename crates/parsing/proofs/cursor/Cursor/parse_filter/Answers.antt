@@ -1,10 +1,9 @@
-use Rattle.std.proofs.Common.{◌≡◌, ℕ, List, ◌++◌, sym, refl, ap, ◌∙◌, subst, rules}
+use Rattle.std.proofs.Common.{refl, ◌∙◌, rules}
 use Rattle.std.proofs.lemmas.Result.{err_from_is_err_and}
-use Rattle.parsing.specs.declared.nodes.ParsedNode.{ParsedNode}
 use Rattle.parsing.specs.Reading.{◌⨾◌, done, or_at, end_at, filter_at}
-use Rattle.parsing.specs.View.{view, held}
+use Rattle.parsing.specs.View.{view}
 use Rattle.parsing.proofs.Runs.{got-then, got-stop, got-done, got_same, re-at}
-use Rattle.parsing.proofs.Trees.{Grown, grown, halted, tree-ok, tree-err}
+use Rattle.parsing.proofs.Trees.{grown, halted, tree-ok, tree-err}
 use Rattle.parsing.proofs.Sets.{same_nodes}
 use Rattle.parsing.proofs.cursor.Cursor.parse_filter.Goals as goal
 

@@ -1,7 +1,7 @@
-use Rattle.std.proofs.Common.{◌≡◌, ℕ, List, is_some, sym, refl, ap, ◌∙◌, subst, rules}
+use Rattle.std.proofs.Common.{ℕ, List, is_some, ap, ◌∙◌, rules}
 use Rattle.glob.specs.Reading.{items_of}
 use Rattle.parsing.specs.Reading.{text_at}
-use Rattle.parsing.specs.View.{St, view, bytes_at}
+use Rattle.parsing.specs.View.{view, bytes_at}
 use Rattle.parsing.proofs.Sets.{same_text}
 use Rattle.parsing.proofs.Matchers.{none_read, some_read, same_bytes, matched-none, matched-plain, matched-glob, matched-bad}
 use Rattle.parsing.proofs.cursor.Cursor.parse_matcher.Goals as goal

@@ -1,12 +1,11 @@
-use Rattle.std.proofs.Common.{◌≡◌, ℕ, ◌+◌, ◌≤◌, List, Ok, Err, Option, Result, sym, refl, ap, ◌∙◌, subst, arith, MutBor, rules}
+use Rattle.std.proofs.Common.{List, Ok, Option, sym, refl, ap, ◌∙◌, subst, arith, MutBor, rules}
 use lib.Seq.{sets}
-use Rattle.errors.specs.declared.faults.ReadingFault.{ReadingFault}
 use Rattle.unicode_string.specs.declared.NameRead.{NameRead}
 use Rattle.errors.specs.declared.reports.Report.{Report}
 use Rattle.unicode_string.specs.Names.{name_at, out_at}
-use Rattle.parsing.specs.Reading.{At, Out, Called, text_at}
-use Rattle.parsing.specs.View.{St, view, Spelt, name_only, Moved, Sound}
-use Rattle.parsing.proofs.Naming.{Far, name-far, has_room_lem, read_all, read_some, all_read, text-state, name-empty, name-full, only-name, empty-spelt, full-spelt}
+use Rattle.parsing.specs.Reading.{Called, text_at}
+use Rattle.parsing.specs.View.{view, Spelt, name_only}
+use Rattle.parsing.proofs.Naming.{name-far, has_room_lem, read_all, read_some, text-state, name-empty, name-full, only-name, empty-spelt, full-spelt}
 use Rattle.parsing.proofs.cursor.Cursor.parse_matcher_text.Goals as goal
 
 pub unreachable-requires : goal.unreachable-requires

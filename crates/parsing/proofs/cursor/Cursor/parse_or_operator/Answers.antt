@@ -1,8 +1,8 @@
-use Rattle.std.proofs.Common.{◌≡◌, ℕ, Option, sym, refl, ap, ◌∙◌, subst, rules}
+use Rattle.std.proofs.Common.{ℕ, Option, ap, ◌∙◌}
 use Rattle.parsing.specs.declared.words.Sign.{Sign}
 use Rattle.parsing.specs.Words.{or_sign_at}
-use Rattle.parsing.specs.Reading.{At, Out, sign_for, or_sign}
-use Rattle.parsing.specs.View.{St, view}
+use Rattle.parsing.specs.Reading.{sign_for, or_sign}
+use Rattle.parsing.specs.View.{view}
 use Rattle.parsing.proofs.Runs.{got_same, got-by, ran-same}
 use Rattle.parsing.proofs.cursor.Cursor.parse_or_operator.Goals as goal
 

@@ -1,7 +1,7 @@
-use Rattle.std.proofs.Common.{◌≡◌, ℕ, Bool, cond, sym, refl, ap, ◌∙◌, rules}
+use Rattle.std.proofs.Common.{ℕ, Bool, cond, ap, rules}
 use Rattle.errors.specs.declared.reports.ReportKind.TheVariants.{UnexpectedComma}
-use Rattle.parsing.specs.Text.{is_at, closing}
-use Rattle.parsing.specs.Reading.{At, Out, done, told, note, report_of, comma_at}
+use Rattle.parsing.specs.Text.{closing}
+use Rattle.parsing.specs.Reading.{done, told, note, report_of, comma_at}
 use Rattle.parsing.specs.View.{view}
 use Rattle.parsing.proofs.Runs.{got-done, got-told, got_same, got-by, ran-same}
 use Rattle.parsing.proofs.cursor.Cursor.recover_unexpected_comma.Goals as goal

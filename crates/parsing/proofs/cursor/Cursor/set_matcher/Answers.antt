@@ -1,10 +1,10 @@
-use Rattle.std.proofs.Common.{◌≡◌, ℕ, ◌+◌, List, Ok, Err, sym, refl, ap, ◌∙◌, subst, Bor, rules}
+use Rattle.std.proofs.Common.{◌≡◌, ℕ, ◌+◌, List, Ok, refl, ap, ◌∙◌, Bor, rules}
 use Rattle.parsing.specs.declared.words.Mark.{Mark}
 use Rattle.parsing.specs.Text.{skip}
 use Rattle.parsing.specs.Words.{mark_at}
-use Rattle.parsing.specs.Reading.{At, Out, moved, argument_for, argument_at, matcher_at}
-use Rattle.parsing.specs.View.{St, view, matcher_only}
-use Rattle.parsing.proofs.Runs.{Got, got-then, got-moved, got-halt, got-ok, got_same, got-by, ran-by, re}
+use Rattle.parsing.specs.Reading.{moved, argument_for, argument_at, matcher_at}
+use Rattle.parsing.specs.View.{view, matcher_only}
+use Rattle.parsing.proofs.Runs.{got-then, got-moved, got-halt, got-ok, got_same, got-by, ran-by, re}
 use Rattle.parsing.proofs.cursor.Cursor.set_matcher.Goals as goal
 
 pub returns-in-Regex : goal.returns-in-Regex

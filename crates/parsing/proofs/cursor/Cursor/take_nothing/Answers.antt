@@ -1,9 +1,9 @@
-use Rattle.std.proofs.Common.{◌≡◌, ℕ, ◌-◌, Bool, cond, List, take, drop, sym, refl, ap, ◌∙◌, rules}
+use Rattle.std.proofs.Common.{◌≡◌, ℕ, ◌-◌, Bool, cond, List, take, drop, ap, ◌∙◌, rules}
 use Rattle.errors.specs.declared.reports.ReportKind.TheVariants.{UnexpectedArgument}
 use Rattle.parsing.specs.Text.{closing}
-use Rattle.parsing.specs.Reading.{At, Out, moved, told, note, report_of, all_white, nothing_to, nothing_at}
+use Rattle.parsing.specs.Reading.{moved, told, note, report_of, all_white, nothing_at}
 use Rattle.parsing.specs.View.{St, view}
-use Rattle.parsing.proofs.Runs.{Got, got-told, got_same, got-by, ran-same}
+use Rattle.parsing.proofs.Runs.{got-told, got_same, got-by, ran-same}
 use Rattle.parsing.proofs.cursor.Cursor.take_nothing.Goals as goal
 
 abbrev part : List ℕ → ℕ → ℕ → List ℕ

@@ -1,10 +1,10 @@
-use Rattle.std.proofs.Common.{◌≡◌, ℕ, ◌+◌, Some, None, Option, sym, refl, ap, ◌∙◌, subst, arith, rules}
+use Rattle.std.proofs.Common.{◌≡◌, ℕ, ◌+◌, Some, Option, sym, ap, arith, rules}
 use Rattle.std.proofs.lemmas.Result.{err_from_is_err_and}
 use Rattle.errors.specs.declared.reports.ReportKind.{ReportKind}
 use Rattle.parsing.specs.declared.words.Sign.{Sign}
-use Rattle.parsing.specs.Reading.{At, Out, done, moved, part, fault_of, sign_for}
-use Rattle.parsing.specs.View.{St, view, Taken}
-use Rattle.parsing.proofs.Runs.{Got, got-done, got-moved, got-then, got-stop, got_same, got-by, ran-same}
+use Rattle.parsing.specs.Reading.{moved, part, fault_of, sign_for}
+use Rattle.parsing.specs.View.{view}
+use Rattle.parsing.proofs.Runs.{got-done, got-moved, got-then, got-stop, got_same, got-by, ran-same}
 use Rattle.parsing.proofs.cursor.Cursor.take_sign.Goals as goal
 
 pub returns-in_err-count_part : goal.returns-in_err-count_part

@@ -1,23 +1,16 @@
-use Rattle.std.proofs.Common.{◌≡◌, ℕ, ◌+◌, ◌-◌, List, [], ◌∷◌, ◌++◌, Some, None, Ok, Err, Option, Result, sym, refl, ap, ◌∙◌, subst, append-nil, arith, rules}
-use Rattle.errors.specs.declared.reports.ReportKind.TheVariants.{ExpectedOpenParenthesis, ExpectedCloseParenthesis, InvalidPlatformArgument}
-use Rattle.expression.specs.declared.queries.BuildPlatform.{BuildPlatform}
+use Rattle.std.proofs.Common.{List, [], ◌∷◌, ◌++◌, Ok, Option, sym, ap, ◌∙◌, subst, append-nil, rules}
+use Rattle.errors.specs.declared.reports.ReportKind.TheVariants.{ExpectedCloseParenthesis}
 use Rattle.parsing.specs.declared.nodes.NameMatcher.{NameMatcher}
-use Rattle.parsing.specs.declared.nodes.ParsedLeaf.{ParsedLeaf}
 use Rattle.parsing.specs.declared.nodes.ParsedLeaf.TheVariants as parsed
 use Rattle.parsing.specs.declared.nodes.ParsedNode.{ParsedNode}
 use Rattle.parsing.specs.declared.nodes.ParsedNode.TheVariants as node
-use Rattle.parsing.specs.Tree.{Tree, Leaf}
-use Rattle.parsing.specs.Text.{skip}
-use Rattle.parsing.specs.Words.{usual}
 use Rattle.parsing.specs.Grammar.{between}
-use Rattle.parsing.specs.Nodes.{nodes_of}
-use Rattle.parsing.specs.Reading.{At, Out, Called, Matched, matched_leaf, expect, moved, note, report_of, comma_at, argument_at, unary_at, text_at, platform_of, platform_by, platform_leaf, platform_at, nothing_at, nullary_at, nullary_leaf}
-use Rattle.parsing.specs.View.{St, view, held, bytes_at, matcher_only, name_only}
-use Rattle.parsing.proofs.Runs.{Got, got_same, got-done, got-by, got-err, re-at}
-use Rattle.parsing.proofs.Moves.{kept_then, moved_then, moved-less}
+use Rattle.parsing.specs.Reading.{expect, comma_at, argument_at, unary_at}
+use Rattle.parsing.specs.View.{view, held, matcher_only}
+use Rattle.parsing.proofs.Runs.{got_same, got-by, got-err, re-at}
+use Rattle.parsing.proofs.Moves.{kept_then}
 use Rattle.parsing.proofs.Trees.{tree-ok, tree-err}
-use Rattle.parsing.proofs.Matchers.{none_read, some_read, same_bytes}
-use Rattle.parsing.proofs.Sets.{same_text, same_nodes, closed-got, unary-got, unary-stop, platform-got, nullary-got, matched-none, matched-some}
+use Rattle.parsing.proofs.Sets.{same_text, same_nodes, closed-got, unary-got, unary-stop, matched-none, matched-some}
 use Rattle.std.proofs.lemmas.Result.{err_from_is_err_and}
 use Rattle.expression.specs.declared.name_matcher.MatchKind.{MatchKind}
 use Rattle.parsing.specs.View.{Ran}
