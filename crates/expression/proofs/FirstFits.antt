@@ -1,6 +1,6 @@
 -- The first row that fits decides, and the tests decide which rows fit.
 use Rattle.std.proofs.Common.{◌≡◌, ℕ, ◌+◌, ◌<◌, Bool, true, false, cond, List, [], ◌∷◌, ◌++◌, length, get_or, drop, Some, None, Decides, Option, sym, refl, ap, ◌∙◌, inl, inr}
-use Rattle.std.specs.List.{AllByRecursion as All}
+use Rattle.std.specs.List.{AllByRecursion}
 use Rattle.std.proofs.lemmas.Slice.Eq.{bytes_eq-Decides}
 use Rattle.std.proofs.lemmas.List.{at_drop_more}
 use Rattle.std.proofs.lemmas.Bool.{cases_Bool, cond-true, cond-false, false≢true}
@@ -20,12 +20,12 @@ first_on fits number rows i d b l e =
     ∙ sym (at_drop_more (first_fit fits number) rows i d l)
 
 module _ {R : Type 0} (fits : R → Bool) (number : R → ℕ) where
-  first-at : (before : List R) (row : R) (after : List R) → All (λ x. fits x ≡ false) before → fits row ≡ true → first_fit fits number (before ++ row ∷ after) ≡ number row
+  first-at : (before : List R) (row : R) (after : List R) → AllByRecursion (λ x. fits x ≡ false) before → fits row ≡ true → first_fit fits number (before ++ row ∷ after) ≡ number row
   first-at [] row after h e = cond-true (fits row) (number row) (first_fit fits number after) e
   first-at (x ∷ before) row after h e =
       cond-false (fits x) (number x) (first_fit fits number (before ++ row ∷ after)) h.0 ∙ first-at before row after h.1 e
 
-  none-fits : (rows : List R) → All (λ x. fits x ≡ false) rows → first_fit fits number rows ≡ 0
+  none-fits : (rows : List R) → AllByRecursion (λ x. fits x ≡ false) rows → first_fit fits number rows ≡ 0
   none-fits [] h = refl
   none-fits (x ∷ rows) h = cond-false (fits x) (number x) (first_fit fits number rows) h.0 ∙ none-fits rows h.1
 
@@ -33,7 +33,7 @@ module _ {R : Type 0} (fits : R → Bool) (number : R → ℕ) where
     unfit : (x : R) → (Fits x → ⊥) → fits x ≡ false
     unfit x h = elim (cases_Bool (fits x)) [ inl e ↦ absurd (h ((each x).0 e)) | inr e ↦ e ]
 
-    unfits : (rows : List R) → All (λ x. Fits x → ⊥) rows → All (λ x. fits x ≡ false) rows
+    unfits : (rows : List R) → AllByRecursion (λ x. Fits x → ⊥) rows → AllByRecursion (λ x. fits x ≡ false) rows
     unfits [] h = tt
     unfits (x ∷ rows) h = (unfit x h.0, unfits rows h.1)
 

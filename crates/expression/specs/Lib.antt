@@ -2,6 +2,7 @@ pub mod Queries
 pub mod Names
 pub mod Logic
 pub mod Kleene
+pub mod Lawful
 pub mod Tree
 pub mod Stack
 pub mod Evaluation

@@ -1,6 +1,6 @@
 -- What the two rosters mean: rows in their order, with names as places in one text.
 use Rattle.std.specs.Prelude.{◌≡◌, ℕ, Bool, false, cond, ◌&&◌, List, [], ◌∷◌, ◌++◌, Some, None, Option}
-use Rattle.std.specs.List.{AllByRecursion as All}
+use Rattle.std.specs.List.{AllByRecursion}
 use Rattle.glob.specs.Parts.{part_of, stands}
 use Rattle.expression.specs.Names.{begins}
 use Rattle.expression.specs.Queries.{Test}
@@ -17,8 +17,8 @@ PrefixFits text q row = (prefix : List ℕ) × (rest : List ℕ) × (part_of tex
 
 -- the first row that fits decides, and where none fits the number is 0
 pub record FirstDecides {R : Type 0} (Fits : R → Type 0) (number : R → ℕ) (rows : List R) (n : ℕ) : Type 0 where
-  pub first : (before : List R) (row : R) (after : List R) → rows ≡ before ++ row ∷ after → All (λ x. Fits x → ⊥) before → Fits row → n ≡ number row
-  pub none : All (λ x. Fits x → ⊥) rows → n ≡ 0
+  pub first : (before : List R) (row : R) (after : List R) → rows ≡ before ++ row ∷ after → AllByRecursion (λ x. Fits x → ⊥) before → Fits row → n ≡ number row
+  pub none : AllByRecursion (λ x. Fits x → ⊥) rows → n ≡ 0
 
 -- whether a row for a single test fits
 abbrev pub row_fits : List ℕ → Test → TestRow → Bool

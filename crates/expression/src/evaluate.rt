@@ -26,7 +26,7 @@ fn step<T: Copy, L: Logic + Copy, C: Leaves<T, L>>(
     n: usize,
 ) -> Option<usize>
     requires { n ≤ length stack.old }
-    ensures stack { option_map (tops stack.new) result ≡ acts ops (shows leaves.now) (length stack.old) node (tops stack.old n) }
+    ensures stack { option_map (tops stack.new) result ≡ acts L.ops (C.shows leaves.now) (length stack.old) node (tops stack.old n) }
     ensures bound { IfSome result (λ m. m ≤ length stack.new) }
 {
     match node {
@@ -72,7 +72,7 @@ pub fn evaluate<T: Copy, L: Logic + Copy, C: Leaves<T, L>>(
     leaves: &C,
     stack: &mut [L],
 ) -> Option<L>
-    ensures { Evaluation ops fits (shows leaves.now) nodes.now (length stack.old) result }
+    ensures { Evaluation L.ops L.fits (C.shows leaves.now) nodes.now (length stack.old) result }
 {
     let mut n = 0;
     for node in nodes {

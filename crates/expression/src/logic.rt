@@ -5,7 +5,7 @@
 ghost use Rattle.std.specs.Prelude.{◌≡◌, Bool};
 ghost use Rattle.expression.specs.Logic.{Ops, Laws, truth, Same};
 ghost use Rattle.expression.specs.Kleene.{kleene, Allows};
-ghost use Rattle.std.proofs.Common.{rules};
+ghost use Rattle.expression.specs.Lawful.{truth_lawful, kleene_lawful};
 
 // The operators that filters are evaluated with. A value fits the truth values that it may stand for.
 pub trait Logic: Sized {
@@ -39,7 +39,7 @@ impl Logic for bool {
 
     ghost fits = { Same };
 
-    ghost lawful = { Prim.search rules };
+    ghost lawful = { truth_lawful };
 
     fn top() -> bool {
         true
@@ -68,7 +68,7 @@ impl Logic for Option<bool> {
 
     ghost fits = { Allows };
 
-    ghost lawful = { Prim.search rules };
+    ghost lawful = { kleene_lawful };
 
     fn top() -> Option<bool> {
         Some(true)

@@ -44,8 +44,8 @@ fn stands_in(value: &[u8], name: &[u8]) -> bool
 impl MatchKind {
     // Whether the name is taken. A glob is asked of the matcher.
     pub fn is_match<M: Matcher>(self, matcher: &M, value: &[u8], name: &[u8]) -> bool
-        ensures value { result ≡ is_taken (matches matcher.now) self value.now name.now }
-        ensures meaning { Decides result (Taken (matches matcher.now) self value.now name.now) }
+        ensures value { result ≡ is_taken (M.matches matcher.now) self value.now name.now }
+        ensures meaning { Decides result (Taken (M.matches matcher.now) self value.now name.now) }
     {
         match self {
             MatchKind::Equal => same_bytes(value, name),

@@ -5,23 +5,23 @@ use Rattle.expression.proofs.Stacks.{run_on, one_left, others-left}
 use Rattle.expression.proofs.Trees.{evaluated}
 use Rattle.expression.proofs.evaluate.evaluate.Goals as goal
 
-pub returns-in-err-n : goal.returns-in-err-n
-returns-in-err-n g c =
+pub returns-in_err-n : goal.returns-in_err-n
+returns-in_err-n g c =
     let xs = c.args.nodes.now in let i = c.loop-node.node-index in let x = c.node-item.result in
     let room = length c.args.stack.now in let s = tops c.loop-node.stack c.loop-node.n in
     let o = g.L.Logic.ops in let f = g.C.Leaves.shows c.args.leaves.now in
-    let stuck : None ≡ acts o f room x s = c.in-err-n.ensures.stack ∙ ap (λ (k : ℕ). acts o f k x s) c.loop-node.auto.stack in
-    evaluated f xs room c.from-residual.result g.met.L.Logic.lawful
-    (c.from-residual.ensures ∙ run_on o f room xs i x s None c.loop-node-test.true c.node-item.is stuck ∙ c.loop-node.invariant.1)
+    let stuck : None ≡ acts o f room x s = c.in_err-n.ensures.stack ∙ ap (λ (k : ℕ). acts o f k x s) c.loop-node.auto.stack in
+    evaluated f xs room c.from_residual.result g.met.L.Logic.lawful
+    (c.from_residual.ensures ∙ run_on o f room xs i x s None c.loop-node-test.true c.node-item.is stuck ∙ c.loop-node.invariant.1)
 
 pub loop-node-preserved : goal.loop-node-preserved
 loop-node-preserved g c =
     let xs = c.args.nodes.now in let i = c.loop-node.node-index in let x = c.node-item.result in
     let room = length c.args.stack.now in let s = tops c.loop-node.stack c.loop-node.n in
     let o = g.L.Logic.ops in let f = g.C.Leaves.shows c.args.leaves.now in
-    let t = tops c.step.new.stack c.in-ok-n.n in
-    let on : Some t ≡ acts o f room x s = c.in-ok-n.ensures.stack ∙ ap (λ (k : ℕ). acts o f k x s) c.loop-node.auto.stack in
-    (c.in-ok-n.ensures.bound, run_on o f room xs i x s (Some t) c.loop-node-test.true c.node-item.is on ∙ c.loop-node.invariant.1)
+    let t = tops c.step.new.stack c.in_ok-n.n in
+    let on : Some t ≡ acts o f room x s = c.in_ok-n.ensures.stack ∙ ap (λ (k : ℕ). acts o f k x s) c.loop-node.auto.stack in
+    (c.in_ok-n.ensures.bound, run_on o f room xs i x s (Some t) c.loop-node-test.true c.node-item.is on ∙ c.loop-node.invariant.1)
 
 pub returns-then-n-eq1 : goal.returns-then-n-eq1
 returns-then-n-eq1 g c =

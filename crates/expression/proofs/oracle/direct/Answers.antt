@@ -19,13 +19,13 @@ loop-edge-init c a b =
 pub loop-edge-preserved : goal.loop-edge-preserved
 unfolding none
 loop-edge-preserved c =
-    let es = c.args.edges.now in let i = c.loop-edge.edge_index in
+    let es = c.args.edges.now in let i = c.loop-edge.edge-index in
     let e = get_or es i none in
     let was = c.loop-edge.rows in let rows = c.if-from-lt-SIZE.rows in
     edge-next es i none was rows c.loop-edge-test.true c.loop-edge.invariant (elim c.if-from-lt-SIZE.branch [
       | then-from-lt-SIZE+then-to-lt-SIZE w ↦ λ a b.
           ap (λ (r : List NumberSet). link r a b) w.rows-is
-          ∙ edge_kept e was w.link-to.new.rows w.link-to-then-to-lt-SIZE.new.rows w.link-to-then-to-lt-SIZE-2.new.rows w.if-from-lt-SIZE.true w.if-to-lt-SIZE.true w.link-to.ensures w.link-to-then-to-lt-SIZE.ensures w.link-to-then-to-lt-SIZE-2.ensures a b
+          ∙ edge_kept e was w.link_to.new.rows w.link_to-then-to-lt-SIZE.new.rows w.link_to-then-to-lt-SIZE-2.new.rows w.if-from-lt-SIZE.true w.if-to-lt-SIZE.true w.link_to.ensures w.link_to-then-to-lt-SIZE.ensures w.link_to-then-to-lt-SIZE-2.ensures a b
       | else-from-lt-SIZE w ↦
           let over : (size ≤ e.from) ⊎ (size ≤ e.to) = elim w.else-from-lt-SIZE.branch [
             | else-from-lt-SIZE-via-then-from-lt-SIZE+else-to-lt-SIZE v ↦ inr v.if-to-lt-SIZE.false
@@ -37,5 +37,5 @@ loop-edge-preserved c =
 pub returns : goal.returns
 returns c a b =
     sym (or_no (link c.loop-edge.rows a b))
-    ∙ ap (λ (t : Bool). link c.loop-edge.rows a b || t) (sym (at_drop_all (λ (z : List Edge). directly z a b) c.args.edges.now c.loop-edge.edge_index c.loop-edge-test.false))
+    ∙ ap (λ (t : Bool). link c.loop-edge.rows a b || t) (sym (at_drop_all (λ (z : List Edge). directly z a b) c.args.edges.now c.loop-edge.edge-index c.loop-edge-test.false))
     ∙ c.loop-edge.invariant a b
