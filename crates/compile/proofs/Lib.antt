@@ -9,4 +9,3 @@ mod Means
 mod Handed
 mod Short
 mod WithinTables
-mod Stops

@@ -8,6 +8,3 @@ pub mod Lowered
 pub mod Filters
 pub mod Compiled
 pub mod Meaning
-pub mod Offers
-pub mod Counts
-pub mod Outcome

@@ -4,7 +4,6 @@
 #![tactic(auto)]
 
 // Lowering: what was read of a filter becomes nodes over the caller's tables.
-mod compile;
 pub mod filter;
 mod ground;
 pub mod kinds;

@@ -112,7 +112,7 @@ fn lower_operator(operator: Operator, nodes: &mut Vec<Node<FilterLeaf>>)
 impl<M: Matcher, O: DependencyOracle> Ground<'_, M, O> {
     // The packages whose name is taken.
     fn packages(&self, kind: MatchKind, value: &[u8]) -> NumberSet
-        ensures { result.words ≡ packages_of (world M.Matcher.matches O.DependencyOracle.depends self.now) kind value.now }
+        ensures { result.words ≡ packages_of (world M.matches O.depends self.now) kind value.now }
     {
         matching_names(
             self.matcher,
@@ -125,7 +125,7 @@ impl<M: Matcher, O: DependencyOracle> Ground<'_, M, O> {
 
     // The packages that these depend on, or that depend on them.
     fn near(&self, way: Direction, kind: MatchKind, value: &[u8]) -> NumberSet
-        ensures { result.words ≡ near_of (world M.Matcher.matches O.DependencyOracle.depends self.now) way kind value.now }
+        ensures { result.words ≡ near_of (world M.matches O.depends self.now) way kind value.now }
     {
         let set = self.packages(kind, value);
         reached_from(self.oracle, way, set, self.tables.packages.len())
@@ -133,7 +133,7 @@ impl<M: Matcher, O: DependencyOracle> Ground<'_, M, O> {
 
     // The groups whose name is taken.
     fn groups(&self, kind: MatchKind, value: &[u8]) -> NumberSet
-        ensures { result.words ≡ groups_by (world M.Matcher.matches O.DependencyOracle.depends self.now) kind value.now }
+        ensures { result.words ≡ groups_by (world M.matches O.depends self.now) kind value.now }
     {
         match self.tables.groups {
             Some(rows) => matching_groups(self.matcher, kind, value, self.tables.names, rows),
@@ -143,7 +143,7 @@ impl<M: Matcher, O: DependencyOracle> Ground<'_, M, O> {
 
     // Whether no binary's id or name is taken.
     fn lacks_binary(&self, field: BinaryField, kind: MatchKind, value: &[u8]) -> bool
-        ensures { result ≡ not (has_binary (world M.Matcher.matches O.DependencyOracle.depends self.now) field kind value.now) }
+        ensures { result ≡ not (has_binary (world M.matches O.depends self.now) field kind value.now) }
     {
         !has_binary(
             self.matcher,
@@ -168,11 +168,11 @@ impl<M: Matcher, O: DependencyOracle> Ground<'_, M, O> {
     ) -> (FilterLeaf, Tally)
         requires room { vec_len names.old + length (matched_name predicate value.now) ≤ vec_capacity names.old }
         requires few { tally.count < 2 ^ 63 }
-        ensures leaf { result.0 ≡ matched_leaf (world M.Matcher.matches O.DependencyOracle.depends self.now) (length names.old.items) predicate kind value.now }
+        ensures leaf { result.0 ≡ matched_leaf (world M.matches O.depends self.now) (length names.old.items) predicate kind value.now }
         ensures names { names.new.items ≡ names.old.items ++ matched_name predicate value.now }
         ensures capacity { vec_capacity names.old ≤ vec_capacity names.new }
-        ensures table { reports.new ≡ sets reports.old tally.count (matched_note (world M.Matcher.matches O.DependencyOracle.depends self.now) predicate kind value.now span) }
-        ensures tally { result.1 ≡ tallied tally (matched_note (world M.Matcher.matches O.DependencyOracle.depends self.now) predicate kind value.now span) }
+        ensures table { reports.new ≡ sets reports.old tally.count (matched_note (world M.matches O.depends self.now) predicate kind value.now span) }
+        ensures tally { result.1 ≡ tallied tally (matched_note (world M.matches O.depends self.now) predicate kind value.now span) }
     {
         match predicate {
             Predicate::Package => packages_leaf(self.packages(kind, value), span, reports, tally),
@@ -209,11 +209,11 @@ impl<M: Matcher, O: DependencyOracle> Ground<'_, M, O> {
     ) -> (FilterLeaf, Tally)
         requires room { vec_len names.old + length (name_for (leaf_of self.now leaf)) ≤ vec_capacity names.old }
         requires few { tally.count < 2 ^ 63 }
-        ensures leaf { result.0 ≡ leaf_for (world M.Matcher.matches O.DependencyOracle.depends self.now) (length names.old.items) (leaf_of self.now leaf) }
+        ensures leaf { result.0 ≡ leaf_for (world M.matches O.depends self.now) (length names.old.items) (leaf_of self.now leaf) }
         ensures names { names.new.items ≡ names.old.items ++ name_for (leaf_of self.now leaf) }
         ensures capacity { vec_capacity names.old ≤ vec_capacity names.new }
-        ensures table { reports.new ≡ sets reports.old tally.count (note_for (world M.Matcher.matches O.DependencyOracle.depends self.now) (leaf_of self.now leaf)) }
-        ensures tally { result.1 ≡ tallied tally (note_for (world M.Matcher.matches O.DependencyOracle.depends self.now) (leaf_of self.now leaf)) }
+        ensures table { reports.new ≡ sets reports.old tally.count (note_for (world M.matches O.depends self.now) (leaf_of self.now leaf)) }
+        ensures tally { result.1 ≡ tallied tally (note_for (world M.matches O.depends self.now) (leaf_of self.now leaf)) }
     {
         match leaf {
             ParsedLeaf::Matched(predicate, matcher, span) => {
@@ -240,10 +240,10 @@ impl<M: Matcher, O: DependencyOracle> Ground<'_, M, O> {
         requires nodes { vec_len nodes.old + size (word_of self.now node) ≤ vec_capacity nodes.old }
         requires names { vec_len names.old + length (copies (word_of self.now node)) ≤ vec_capacity names.old }
         requires few { tally.count < 2 ^ 63 }
-        ensures nodes { nodes.new.items ≡ nodes.old.items ++ emits (world M.Matcher.matches O.DependencyOracle.depends self.now) (length names.old.items) (word_of self.now node) }
+        ensures nodes { nodes.new.items ≡ nodes.old.items ++ emits (world M.matches O.depends self.now) (length names.old.items) (word_of self.now node) }
         ensures names { names.new.items ≡ names.old.items ++ copies (word_of self.now node) }
-        ensures table { reports.new ≡ sets reports.old tally.count (notes (world M.Matcher.matches O.DependencyOracle.depends self.now) (word_of self.now node)) }
-        ensures tally { result ≡ tallied tally (notes (world M.Matcher.matches O.DependencyOracle.depends self.now) (word_of self.now node)) }
+        ensures table { reports.new ≡ sets reports.old tally.count (notes (world M.matches O.depends self.now) (word_of self.now node)) }
+        ensures tally { result ≡ tallied tally (notes (world M.matches O.depends self.now) (word_of self.now node)) }
         ensures node_len { vec_len nodes.new ≡ vec_len nodes.old + size (word_of self.now node) }
         ensures node_cap { vec_capacity nodes.new ≡ vec_capacity nodes.old }
         ensures name_cap { vec_capacity names.old ≤ vec_capacity names.new }
@@ -272,7 +272,7 @@ impl<M: Matcher, O: DependencyOracle> Ground<'_, M, O> {
         requires nodes { vec_len nodes.old + sizes (map (word_of self.now) parsed.now) ≤ vec_capacity nodes.old }
         requires names { vec_len names.old + length (copied (map (word_of self.now) parsed.now)) ≤ vec_capacity names.old }
         requires few { length parsed.now < 2 ^ 32 }
-        ensures lowers { Lowers (world M.Matcher.matches O.DependencyOracle.depends self.now) (map (word_of self.now) parsed.now) (state nodes.old.items names.old.items reports.old no_reports) (state nodes.new.items names.new.items reports.new result) }
+        ensures lowers { Lowers (world M.matches O.depends self.now) (map (word_of self.now) parsed.now) (state nodes.old.items names.old.items reports.old no_reports) (state nodes.new.items names.new.items reports.new result) }
         ensures capacity { (vec_capacity nodes.old ≤ vec_capacity nodes.new) × (vec_capacity names.old ≤ vec_capacity names.new) }
     {
         let mut tally = Tally::new();
@@ -293,9 +293,9 @@ impl<M: Matcher, O: DependencyOracle> Ground<'_, M, O> {
         requires nodes { sizes (map (word_of self.now) parsed.now) ≤ 191 }
         requires names { length (copied (map (word_of self.now) parsed.now)) ≤ 1024 }
         requires few { length parsed.now < 2 ^ 32 }
-        ensures table { reports.new ≡ sets reports.old 0 (noted (world M.Matcher.matches O.DependencyOracle.depends self.now) (map (word_of self.now) parsed.now)) }
-        ensures tally { result ≡ tallied no_reports (noted (world M.Matcher.matches O.DependencyOracle.depends self.now) (map (word_of self.now) parsed.now)) }
-        ensures nodes { nodes.new.items.items ≡ emitted (world M.Matcher.matches O.DependencyOracle.depends self.now) 0 (map (word_of self.now) parsed.now) }
+        ensures table { reports.new ≡ sets reports.old 0 (noted (world M.matches O.depends self.now) (map (word_of self.now) parsed.now)) }
+        ensures tally { result ≡ tallied no_reports (noted (world M.matches O.depends self.now) (map (word_of self.now) parsed.now)) }
+        ensures nodes { nodes.new.items.items ≡ emitted (world M.matches O.depends self.now) 0 (map (word_of self.now) parsed.now) }
         ensures names { names.new.bytes.items ≡ copied (map (word_of self.now) parsed.now) }
     {
         nodes.items.clear();
@@ -313,9 +313,9 @@ impl<M: Matcher, O: DependencyOracle> Ground<'_, M, O> {
         requires nodes { sizes (map (word_of self.now) parsed.now) ≤ 191 }
         requires names { length (copied (map (word_of self.now) parsed.now)) ≤ 1024 }
         requires few { length parsed.now < 2 ^ 32 }
-        ensures table { reports.new ≡ sets reports.old 0 (noted (world M.Matcher.matches O.DependencyOracle.depends self.now) (map (word_of self.now) parsed.now)) }
-        ensures answer { result ≡ answer (fault_by NothingFound (noted (world M.Matcher.matches O.DependencyOracle.depends self.now) (map (word_of self.now) parsed.now))) }
-        ensures nodes { filter.new.nodes.items.items ≡ emitted (world M.Matcher.matches O.DependencyOracle.depends self.now) 0 (map (word_of self.now) parsed.now) }
+        ensures table { reports.new ≡ sets reports.old 0 (noted (world M.matches O.depends self.now) (map (word_of self.now) parsed.now)) }
+        ensures answer { result ≡ answer (fault_by NothingFound (noted (world M.matches O.depends self.now) (map (word_of self.now) parsed.now))) }
+        ensures nodes { filter.new.nodes.items.items ≡ emitted (world M.matches O.depends self.now) 0 (map (word_of self.now) parsed.now) }
         ensures names { filter.new.names.bytes.items ≡ copied (map (word_of self.now) parsed.now) }
     {
         let tally = self.lower_anew(parsed, &mut filter.nodes, &mut filter.names, reports);
@@ -339,7 +339,7 @@ impl<M: Matcher, O: DependencyOracle> Ground<'_, M, O> {
         requires nodes { sizes (map (word_of self.now) parsed.now) ≤ 191 }
         requires names { length (copied (map (word_of self.now) parsed.now)) ≤ 1024 }
         requires few { length parsed.now < 2 ^ 32 }
-        ensures { (t : Tree (List ℕ)) → Whole t → postfix t ≡ map (word_of self.now) parsed.now → Compiled kind (world M.Matcher.matches O.DependencyOracle.depends self.now) t reports.old reports.new filter.new result }
+        ensures { (t : Tree (List ℕ)) → Whole t → postfix t ≡ map (word_of self.now) parsed.now → Compiled kind (world M.matches O.depends self.now) t reports.old reports.new filter.new result }
     {
         check_bans(kind, parsed, reports)?;
         let group = leftmost_group(parsed);

@@ -23,7 +23,7 @@ pub(crate) fn matching_names<M: Matcher>(
     names: &[u8],
     rows: &[Place],
 ) -> NumberSet
-    ensures { result.words ≡ numbers_of (is_taken (matches matcher.now) kind value.now) (map (name_at names.now) rows.now) }
+    ensures { result.words ≡ numbers_of (is_taken (M.matches matcher.now) kind value.now) (map (name_at names.now) rows.now) }
 {
     let mut set = NumberSet::new();
     for (i, row) in rows.iter().enumerate() {
@@ -42,7 +42,7 @@ pub(crate) fn matching_groups<M: Matcher>(
     names: &[u8],
     rows: &[Place],
 ) -> NumberSet
-    ensures { result.words ≡ numbers_of (is_taken (matches matcher.now) kind value.now) (group_names (map (name_at names.now) rows.now)) }
+    ensures { result.words ≡ numbers_of (is_taken (M.matches matcher.now) kind value.now) (group_names (map (name_at names.now) rows.now)) }
 {
     let mut set = NumberSet::new();
     if kind.is_match(matcher, value, b"@global") {
@@ -64,7 +64,7 @@ pub(crate) enum Direction {
 }
 
 fn leads<O: DependencyOracle>(oracle: &O, way: Direction, from: usize, to: usize) -> bool
-    ensures { result ≡ along way (depends oracle.now) from to }
+    ensures { result ≡ along way (O.depends oracle.now) from to }
 {
     match way {
         Direction::Dependencies => oracle.depends_on(from, to),
@@ -80,7 +80,7 @@ fn is_led<O: DependencyOracle>(
     count: usize,
     to: usize,
 ) -> bool
-    ensures { result ≡ is_led way (depends oracle.now) set.words count to }
+    ensures { result ≡ is_led way (O.depends oracle.now) set.words count to }
 {
     for from in 0..count {
         if set.contains(from) && leads(oracle, way, from, to) {
@@ -97,7 +97,7 @@ pub(crate) fn reached_from<O: DependencyOracle>(
     set: NumberSet,
     count: usize,
 ) -> NumberSet
-    ensures { result.words ≡ reached way (depends oracle.now) set.words count }
+    ensures { result.words ≡ reached way (O.depends oracle.now) set.words count }
 {
     let mut found = NumberSet::new();
     for to in 0..count {
@@ -133,7 +133,7 @@ pub(crate) fn has_binary<M: Matcher>(
     field: BinaryField,
     rows: &[BinaryRow],
 ) -> bool
-    ensures { result ≡ some (λ b. is_taken (matches matcher.now) kind value.now (field_of field b)) (map (binary_at names.now) rows.now) }
+    ensures { result ≡ some (λ b. is_taken (M.matches matcher.now) kind value.now (field_of field b)) (map (binary_at names.now) rows.now) }
 {
     for row in rows {
         if kind.is_match(matcher, value, field_at(names, field, *row)) {

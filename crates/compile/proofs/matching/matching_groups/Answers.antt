@@ -8,15 +8,15 @@ use Rattle.compile.specs.Tables.{name_at}
 use Rattle.compile.specs.Numbers.{passes, group_names}
 use Rattle.compile.proofs.Rows.{nowhere}
 use Rattle.compile.proofs.matching.matching_groups.Goals as goal
-use Rattle.compile.proofs.matching.matching_groups.Goals.{then-is-match, else-is-match, then-is-match-2, else-is-match-2}
+use Rattle.compile.proofs.matching.matching_groups.Goals.{then-is_match, else-is_match, then-is_match-2, else-is_match-2}
 
 pub loop-i-init : goal.loop-i-init
 loop-i-init g c =
     let p = passes (is_taken (g.M.Matcher.matches c.args.matcher.now) c.args.kind c.args.value.now) (group_names (map (name_at c.args.names.now) c.args.rows.now)) in
     let start = c.new-set.ensures.words ∙ set_of-none width p in
     elim c.if-is_match.branch [
-      | then-is-match w ↦ ap (λ (x : NumberSet). x.words) w.set-is ∙ w.insert.ensures.words ∙ set_of-in width p 0 c.new-set.result.words (sym c.is_match.ensures.value ∙ w.if-is-match.true) start
-      | else-is-match w ↦ ap (λ (x : NumberSet). x.words) w.set-is ∙ set_of-out width p 0 c.new-set.result.words (sym c.is_match.ensures.value ∙ w.if-is-match.false) start
+      | then-is_match w ↦ ap (λ (x : NumberSet). x.words) w.set-is ∙ w.insert.ensures.words ∙ set_of-in width p 0 c.new-set.result.words (sym c.is_match.ensures.value ∙ w.if-is_match.true) start
+      | else-is_match w ↦ ap (λ (x : NumberSet). x.words) w.set-is ∙ set_of-out width p 0 c.new-set.result.words (sym c.is_match.ensures.value ∙ w.if-is_match.false) start
     ]
 
 pub loop-i-preserved : goal.loop-i-preserved
@@ -29,8 +29,8 @@ loop-i-preserved g c =
     let same : c.is_match-in-loop-i.result ≡ p (i + 1) =
     c.is_match-in-loop-i.ensures.value ∙ ap f (c.name_at.ensures ∙ sym (get_or-map h c.args.rows.now i nowhere [] c.loop-i-test.true)) ∙ sym (ap p (add-one i)) in
     elim c.if-is_match-2.branch [
-      | then-is-match-2 w ↦ ap (λ (x : NumberSet). x.words) w.set-is ∙ w.insert-then-is-match-2.ensures.words ∙ set_of-in width p (i + 1) s (sym same ∙ w.if-is-match-2.true) c.loop-i.invariant
-      | else-is-match-2 w ↦ ap (λ (x : NumberSet). x.words) w.set-is ∙ set_of-out width p (i + 1) s (sym same ∙ w.if-is-match-2.false) c.loop-i.invariant
+      | then-is_match-2 w ↦ ap (λ (x : NumberSet). x.words) w.set-is ∙ w.insert-then-is_match-2.ensures.words ∙ set_of-in width p (i + 1) s (sym same ∙ w.if-is_match-2.true) c.loop-i.invariant
+      | else-is_match-2 w ↦ ap (λ (x : NumberSet). x.words) w.set-is ∙ set_of-out width p (i + 1) s (sym same ∙ w.if-is_match-2.false) c.loop-i.invariant
     ]
 
 pub returns : goal.returns

@@ -9,7 +9,7 @@ use Rattle.compile.specs.Tables.{name_at}
 use Rattle.compile.specs.Numbers.{passes}
 use Rattle.compile.proofs.Rows.{nowhere}
 use Rattle.compile.proofs.matching.matching_names.Goals as goal
-use Rattle.compile.proofs.matching.matching_names.Goals.{then-is-match, else-is-match}
+use Rattle.compile.proofs.matching.matching_names.Goals.{then-is_match, else-is_match}
 
 pub loop-i-init : goal.loop-i-init
 loop-i-init g c = c.new-set.ensures.words ∙ set_of-none width (passes (is_taken (g.M.Matcher.matches c.args.matcher.now) c.args.kind c.args.value.now) (map (name_at c.args.names.now) c.args.rows.now))
@@ -24,8 +24,8 @@ loop-i-preserved g c =
     let same : c.is_match.result ≡ p i =
     c.is_match.ensures.value ∙ ap f (c.name_at.ensures ∙ sym (get_or-map h c.args.rows.now i nowhere [] c.loop-i-test.true)) in
     elim c.if-is_match.branch [
-      | then-is-match w ↦ ap (λ (x : NumberSet). x.words) w.set-is ∙ w.insert.ensures.words ∙ set_of-in width p i s (sym same ∙ w.if-is-match.true) c.loop-i.invariant
-      | else-is-match w ↦ ap (λ (x : NumberSet). x.words) w.set-is ∙ set_of-out width p i s (sym same ∙ w.if-is-match.false) c.loop-i.invariant
+      | then-is_match w ↦ ap (λ (x : NumberSet). x.words) w.set-is ∙ w.insert.ensures.words ∙ set_of-in width p i s (sym same ∙ w.if-is_match.true) c.loop-i.invariant
+      | else-is_match w ↦ ap (λ (x : NumberSet). x.words) w.set-is ∙ set_of-out width p i s (sym same ∙ w.if-is_match.false) c.loop-i.invariant
     ]
 
 pub returns : goal.returns

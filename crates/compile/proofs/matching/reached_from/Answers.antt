@@ -4,7 +4,7 @@ use Rattle.expression.specs.NumberSets.{width}
 use Rattle.expression.proofs.SetLaws.{set_of-none, set_of-in, set_of-out}
 use Rattle.compile.specs.Numbers.{is_led}
 use Rattle.compile.proofs.matching.reached_from.Goals as goal
-use Rattle.compile.proofs.matching.reached_from.Goals.{then-is-led, else-is-led}
+use Rattle.compile.proofs.matching.reached_from.Goals.{then-is_led, else-is_led}
 
 pub loop-to-init : goal.loop-to-init
 loop-to-init g c = c.new-found.ensures.words ∙ set_of-none width (is_led c.args.way (g.O.DependencyOracle.depends c.args.oracle.now) c.args.set.words c.args.count)
@@ -15,6 +15,6 @@ loop-to-preserved g c =
     let i = c.loop-to.to in
     let s = c.loop-to.found.words in
     elim c.if-is_led.branch [
-      | then-is-led w ↦ ap (λ (x : NumberSet). x.words) w.found-is ∙ w.insert.ensures.words ∙ set_of-in width p i s (sym c.is_led.ensures ∙ w.if-is-led.true) c.loop-to.invariant
-      | else-is-led w ↦ ap (λ (x : NumberSet). x.words) w.found-is ∙ set_of-out width p i s (sym c.is_led.ensures ∙ w.if-is-led.false) c.loop-to.invariant
+      | then-is_led w ↦ ap (λ (x : NumberSet). x.words) w.found-is ∙ w.insert.ensures.words ∙ set_of-in width p i s (sym c.is_led.ensures ∙ w.if-is_led.true) c.loop-to.invariant
+      | else-is_led w ↦ ap (λ (x : NumberSet). x.words) w.found-is ∙ set_of-out width p i s (sym c.is_led.ensures ∙ w.if-is_led.false) c.loop-to.invariant
     ]

@@ -31,11 +31,11 @@ loop-node-preserved g c =
     let s : State = state (vec_items c.loop-node.nodes) (vec_items c.loop-node.names) c.loop-node.reports c.loop-node.tally in
     let t : State = state (vec_items c.lower_node-tally.new.nodes) (vec_items c.lower_node-tally.new.names) c.lower_node-tally.new.reports c.lower_node-tally.result in (
       subst (λ (z : List (Word (List ℕ))). Lowers w z s0 t) (sym (map_more f xs i no_node c.loop-node-test.true)) (lowers_then w (map f (take i xs)) (x ∷ []) s0 s t c.loop-node.invariant.0 (lowers-one w x s t e.nodes e.names e.table e.tally)),
-      omega (arith, c.loop-node.invariant.1, room-sizes f xs i no_node c.loop-node-test.true, e.node-len, e.node-cap),
-      omega (arith, c.loop-node.invariant.2, room-copied f xs i no_node c.loop-node-test.true, ap length e.names, length-append (vec_items c.loop-node.names) (copies x), e.name-cap),
+      omega (arith, c.loop-node.invariant.1, room-sizes f xs i no_node c.loop-node-test.true, e.node_len, e.node_cap),
+      omega (arith, c.loop-node.invariant.2, room-copied f xs i no_node c.loop-node-test.true, ap length e.names, length-append (vec_items c.loop-node.names) (copies x), e.name_cap),
       omega (arith, c.loop-node.invariant.3, few-notes w x, ap (λ (z : Tally). z.count) e.tally),
-      omega (arith, c.loop-node.invariant.4, e.node-cap),
-      omega (arith, c.loop-node.invariant.5, e.name-cap),
+      omega (arith, c.loop-node.invariant.4, e.node_cap),
+      omega (arith, c.loop-node.invariant.5, e.name_cap),
     )
 
 pub returns : goal.returns
