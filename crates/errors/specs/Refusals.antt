@@ -1,5 +1,5 @@
 -- The fourteen refusals: what a refused call answers, for each fault of each layer.
-use Rattle.std.specs.Prelude.{ℕ, ◌-◌, List, [], ◌∷◌, get_or, codes}
+use Rattle.std.specs.Prelude.{ℕ}
 use Rattle.errors.specs.declared.faults.Layer.{Layer}
 use Rattle.errors.specs.declared.faults.Layer.TheVariants as layer
 use Rattle.errors.specs.declared.faults.Refusal.{Refusal}

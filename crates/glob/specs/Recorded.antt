@@ -1,5 +1,5 @@
 -- What recorded answers mean.
-use Rattle.std.specs.Prelude.{ℕ, Bool, true, false, cond, ◌&&◌, List, [], ◌∷◌}
+use Rattle.std.specs.Prelude.{ℕ, Bool, false, cond, ◌&&◌, List, [], ◌∷◌}
 use Rattle.glob.specs.Parts.{stands}
 use Rattle.glob.specs.declared.matcher.Answer.{Answer}
 

@@ -2,7 +2,6 @@
 use glob::matcher::{Answer, Matcher, PlainGlob, RecordedAnswers};
 use glob::place::Place;
 use glob::{is_match, well_formed};
-use std::test::Fail;
 
 // Each ill-formed pattern beside its nearest well-formed neighbour.
 #[test]
@@ -79,7 +78,7 @@ fn matching(rt: HostRuntime) {
 
 // The last star alone is tried again, so that many stars cost no more than one.
 #[test]
-fn many_stars(rt: HostRuntime) -> Result<(), Fail> {
+fn many_stars(rt: HostRuntime) {
     let mut pattern = [b'*'; 400];
     for i in 0..200 {
         pattern[2 * i + 1] = b'a';
@@ -90,7 +89,6 @@ fn many_stars(rt: HostRuntime) -> Result<(), Fail> {
     assert!(rt; !is_match(&pattern, &name));
     name[9999] = b'b';
     assert!(rt; is_match(&pattern, &name));
-    Ok(())
 }
 
 #[test]

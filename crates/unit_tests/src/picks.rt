@@ -35,7 +35,7 @@ fn picked(rt: HostRuntime) -> Result<(), Fail> {
     assert!(rt; picking.verdicts.len() == 4);
     assert!(rt; picking.verdicts[0].picked && !picking.verdicts[1].picked);
     assert!(rt; !picking.verdicts[2].picked && picking.verdicts[3].picked);
-    assert!(rt; picking.verdicts[3].name == b"bus::");
+    assert!(rt; picking.verdicts[3].name == b"bus::".as_slice());
     assert!(rt; pick(heap, b"bus::[", &names)?.is_none());
     match pick(heap, b"", &names)? {
         Some(picking) => {

@@ -1,4 +1,4 @@
-use Rattle.std.proofs.Common.{◌≡◌, ◌+◌, ◌-◌, ◌≤◌, length, drop}
+use Rattle.std.proofs.Common.{◌≡◌, ◌-◌, length, drop}
 use Rattle.glob.specs.Glob.{within}
 use Rattle.glob.specs.Reading.{ranges_of}
 use Rattle.glob.proofs.lists.Given as goal

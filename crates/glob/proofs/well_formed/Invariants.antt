@@ -1,4 +1,4 @@
-use Rattle.std.proofs.Common.{◌≡◌, ◌+◌, ◌-◌, ◌≤◌, length, drop, is_some}
+use Rattle.std.proofs.Common.{◌≡◌, ◌-◌, ◌≤◌, length, drop, is_some}
 use Rattle.glob.specs.Reading.{items_of}
 use Rattle.glob.proofs.well_formed.Given as goal
 

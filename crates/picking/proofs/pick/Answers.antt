@@ -1,6 +1,6 @@
-use Rattle.std.proofs.Common.{◌≡◌, ◌+◌, cond, map, sym, refl, ap, ◌∙◌, add-zero}
+use Rattle.std.proofs.Common.{◌+◌, cond, map, sym, refl, ap, ◌∙◌, add-zero}
 use Rattle.std.proofs.lemmas.List.{take_all}
-use Rattle.picking.proofs.SoFar.{SoFar, more}
+use Rattle.picking.proofs.SoFar.{more}
 use Rattle.picking.proofs.pick.Goals as goal
 use Rattle.picking.proofs.pick.Goals.{then-picked, else-picked}
 

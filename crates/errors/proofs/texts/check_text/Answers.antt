@@ -1,4 +1,4 @@
-use Rattle.std.proofs.Common.{sym, arith}
+use Rattle.std.proofs.Common.{arith}
 use Rattle.errors.proofs.texts.check_text.Goals as goal
 
 pub returns-in-Err : goal.returns-in-Err
