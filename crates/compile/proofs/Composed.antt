@@ -9,7 +9,7 @@ use Rattle.parsing.specs.Tree.{Tree}
 use Rattle.compile.specs.declared.filter.Filter.{Filter}
 use Rattle.compile.specs.declared.kinds.FiltersetKind.{FiltersetKind}
 use Rattle.compile.specs.Bans.{banned, leftmost_group}
-use Rattle.compile.specs.Compiled.{fault_by, no_groups, fault_of, answer, reports_by, reports_of, Compiled}
+use Rattle.compile.specs.Compiled.{fault_by, no_groups, fault_of, answer, reports_by, Compiled}
 use Rattle.compile.specs.Filters.{reported, Stores}
 use Rattle.compile.specs.World.{World}
 

@@ -1,9 +1,7 @@
 -- What reading and the check of the tables hand on to lowering.
-use Rattle.std.proofs.Common.{◌≡◌, ℕ, ◌+◌, ◌*◌, ◌^◌, ◌<◌, ◌≤◌, Bool, true, false, ◌&&◌, leb, List, [], ◌∷◌, ◌++◌, map, length, Some, None, Option, sym, refl, ap, ◌∙◌, subst, arith, length-append}
+use Rattle.std.proofs.Common.{◌≡◌, ℕ, ◌^◌, ◌<◌, ◌≤◌, List, [], ◌∷◌, ◌++◌, map, length, Some, None, Option, sym, refl, ap, ◌∙◌, subst, arith, length-append}
 use Rattle.std.specs.Option.{option_map}
 use Rattle.std.proofs.lemmas.List.{length-map}
-use Rattle.std.proofs.lemmas.Bool.{leb-true}
-use Rattle.unicode_string.specs.declared.Name.{Name}
 use Rattle.unicode_string.specs.Names.{bytes_in}
 use Rattle.parsing.specs.declared.nodes.ParsedLeaf.{ParsedLeaf}
 use Rattle.parsing.specs.declared.nodes.ParsedLeaf.TheVariants as parsed

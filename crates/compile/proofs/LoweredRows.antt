@@ -1,5 +1,5 @@
 -- Nodes lowered one after the other.
-use Rattle.std.proofs.Common.{◌≡◌, ℕ, ◌+◌, ◌<◌, ◌≤◌, Bool, List, [], ◌∷◌, ◌++◌, map, length, get_or, drop, sym, refl, ap, ◌∙◌, append_assoc, append-nil, add-zero, arith, length-append}
+use Rattle.std.proofs.Common.{◌≡◌, ℕ, ◌+◌, ◌<◌, ◌≤◌, List, [], ◌∷◌, ◌++◌, map, length, get_or, drop, sym, refl, ap, ◌∙◌, append_assoc, append-nil, add-zero, arith, length-append}
 use lib.Seq.{sets}
 use Rattle.std.proofs.lemmas.List.{at_drop_more}
 use Rattle.errors.specs.declared.reports.Report.{Report}
@@ -13,7 +13,7 @@ use Rattle.compile.specs.declared.filter.FilterLeaf.{FilterLeaf}
 use Rattle.compile.specs.declared.reports.Tally.{Tally}
 use Rattle.compile.specs.Reports.{tallied}
 use Rattle.compile.specs.World.{World}
-use Rattle.compile.specs.Lowered.{emits, copies, notes, size, emitted, copied, noted, sizes, State, state, Lowers, matched_note, note_for}
+use Rattle.compile.specs.Lowered.{emits, copies, notes, size, emitted, copied, noted, sizes, State, Lowers, matched_note, note_for}
 use Rattle.compile.proofs.Tallies.{sets-append, tallied-append, note-few}
 
 pub copied-append : (xs ys : List (Word (List ℕ))) → copied (xs ++ ys) ≡ copied xs ++ copied ys

@@ -1,12 +1,12 @@
 -- A filter's value is that of the reading that it stores.
-use Rattle.std.proofs.Common.{◌≡◌, ℕ, ◌+◌, ◌≤◌, Bool, true, false, cond, ◌&&◌, ltb, leb, List, [], ◌∷◌, ◌++◌, length, get_or, take, drop, Some, None, vec_items, Option, sym, refl, ap, ◌∙◌, append_assoc, append-nil, arith, length-append}
+use Rattle.std.proofs.Common.{◌≡◌, ℕ, ◌+◌, ◌≤◌, Bool, cond, ◌&&◌, ltb, List, [], ◌++◌, length, take, drop, Some, None, vec_items, Option, sym, refl, ap, ◌∙◌, append_assoc, append-nil, arith, length-append}
 use Rattle.std.proofs.lemmas.List.{drop_at, take_at}
 use Rattle.std.proofs.lemmas.Bool.{lt-ltb, le-ltb, le-leb}
 use Rattle.expression.specs.declared.name_matcher.MatchKind.{MatchKind}
 use Rattle.expression.specs.Kleene.{kleene}
 use Rattle.expression.specs.Logic.{Ops, truth}
 use Rattle.expression.specs.Names.{is_taken}
-use Rattle.expression.specs.NumberSets.{width, size, member, some_below, no_numbers}
+use Rattle.expression.specs.NumberSets.{width, size, member}
 use Rattle.expression.specs.Queries.{Binary as BinaryAsked, Test as TestAsked}
 use Rattle.expression.specs.Tree.{Tree as Nodes, value}
 use Rattle.expression.proofs.SetLaws.{member-set_of, some_same}
@@ -18,8 +18,8 @@ use Rattle.parsing.specs.Tree.{Leaf, Tree}
 use Rattle.compile.specs.declared.filter.FilterLeaf.{FilterLeaf}
 use Rattle.compile.specs.declared.matching.Direction.{Direction}
 use Rattle.compile.specs.declared.matching.Direction.TheVariants.{Dependencies, Dependents}
-use Rattle.compile.specs.Filters.{Whole, kept, lowered_from, joined_by, Stores}
-use Rattle.compile.specs.Lowered.{leaf_for, name_for, own, matched_leaf, matched_name, packages_of, near_of, groups_by}
+use Rattle.compile.specs.Filters.{Whole, kept, lowered_from, joined_by}
+use Rattle.compile.specs.Lowered.{leaf_for, name_for, own, matched_leaf, matched_name, packages_of, near_of}
 use Rattle.compile.specs.Meaning.{joined_in, meaning, has_name, is_near, in_group, in_set, judged, known_set, screened, takes, holds_group, judged_leaf, screened_leaf, GroupsWithin, Within, Faithful}
 use Rattle.compile.specs.Numbers.{passes, numbers_of, group_names, groups_of, along, leads_from, is_led}
 use Rattle.compile.specs.Tables.{name_at, or_empty}

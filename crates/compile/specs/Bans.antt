@@ -3,7 +3,6 @@ use Rattle.std.specs.Prelude.{ℕ, Bool, true, false, cond, ◌||◌, List, [], 
 use Rattle.std.specs.Option.{option_or}
 use Rattle.errors.specs.declared.reports.Report.{Report}
 use Rattle.errors.specs.declared.reports.ReportKind.TheVariants.{BannedPredicate}
-use Rattle.glob.specs.declared.place.Place.{Place}
 use Rattle.parsing.specs.declared.nodes.Predicate.{Predicate}
 use Rattle.parsing.specs.declared.nodes.Predicate.TheVariants as predicate
 use Rattle.parsing.specs.declared.nodes.ParsedNode.{ParsedNode}

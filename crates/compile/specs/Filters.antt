@@ -1,6 +1,5 @@
 -- The filter that a reading is lowered to, by the grammar's tree.
-use Rattle.std.specs.Prelude.{◌≡◌, ℕ, ◌+◌, List, [], ◌∷◌, ◌++◌, length, vec_items}
-use Rattle.std.proofs.lemmas.List.Edits.{sets}
+use Rattle.std.specs.Prelude.{◌≡◌, ℕ, ◌+◌, List, [], ◌++◌, length, vec_items}
 use Rattle.errors.specs.declared.reports.Report.{Report}
 use Rattle.expression.specs.Tree.{Tree as Nodes, leaf, complement, intersection, union, postfix}
 use Rattle.parsing.specs.declared.nodes.Operator.{Operator}
@@ -9,10 +8,8 @@ use Rattle.parsing.specs.Tree.{Tree}
 use Rattle.compile.specs.declared.filter.Filter.{Filter}
 use Rattle.compile.specs.declared.filter.FilterLeaf.{FilterLeaf}
 use Rattle.compile.specs.declared.filter.FilterLeaf.TheVariants as lowered
-use Rattle.compile.specs.declared.reports.Tally.{Tally}
 use Rattle.compile.specs.Bans.{leftmost_group}
 use Rattle.compile.specs.Lowered.{leaf_for, name_for, note_for}
-use Rattle.compile.specs.Reports.{tallied, no_reports}
 use Rattle.compile.specs.World.{World}
 
 -- no operand is missing or faulty

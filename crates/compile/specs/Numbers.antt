@@ -1,5 +1,5 @@
 -- Which packages and groups, by number: those whose name passes, and those that some of them depend on or are depended on by.
-use Rattle.std.specs.Prelude.{ℕ, Bool, true, false, ◌&&◌, ◌||◌, List, [], ◌∷◌, length, Some, None, codes, Option, slice_index_or}
+use Rattle.std.specs.Prelude.{ℕ, Bool, false, ◌&&◌, ◌||◌, List, [], ◌∷◌, length, Some, None, codes, Option, slice_index_or}
 use Rattle.expression.specs.NumberSets.{width, member, some_below, set_of}
 use Rattle.compile.specs.declared.matching.Direction.{Direction}
 use Rattle.compile.specs.declared.matching.Direction.TheVariants.{Dependencies, Dependents}

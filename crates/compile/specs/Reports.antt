@@ -1,5 +1,5 @@
 -- Reports that lowering makes: how many there are, and where the first starts.
-use Rattle.std.specs.Prelude.{ℕ, ◌+◌, Bool, cond, List, [], ◌∷◌, length, None}
+use Rattle.std.specs.Prelude.{◌+◌, Bool, cond, List, [], ◌∷◌, length, None}
 use Rattle.errors.specs.declared.reports.Report.{Report}
 use Rattle.errors.specs.declared.reports.ReportKind.{ReportKind}
 use Rattle.glob.specs.declared.place.Place.{Place}

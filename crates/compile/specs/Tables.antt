@@ -1,5 +1,5 @@
 -- The caller's tables: which are good, and the names in them.
-use Rattle.std.specs.Prelude.{ℕ, Bool, true, cond, ◌&&◌, List, [], ◌∷◌, map, length, is_some, Some, None, codes, Option, nat_le}
+use Rattle.std.specs.Prelude.{ℕ, Bool, true, ◌&&◌, List, [], ◌∷◌, map, length, is_some, Some, None, Option, nat_le}
 use Rattle.std.specs.Option.{option_map}
 use Rattle.glob.specs.declared.place.Place.{Place}
 use Rattle.glob.specs.Parts.{part_of}

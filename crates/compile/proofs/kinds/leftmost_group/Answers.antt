@@ -1,4 +1,4 @@
-use Rattle.std.proofs.Common.{◌≡◌, Some, None, sym, refl, ap, ◌∙◌}
+use Rattle.std.proofs.Common.{Some, None}
 use Rattle.compile.specs.Bans.{group_at}
 use Rattle.compile.proofs.Rows.{no_node}
 use Rattle.compile.proofs.BanLists.{leftmost-more, leftmost-all}

@@ -1,7 +1,6 @@
-use Rattle.std.proofs.Common.{◌≡◌, ℕ, Bool, true, false, List, sym, refl, ap, ◌∙◌}
-use Rattle.std.proofs.lemmas.List.{get_or-map}
+use Rattle.std.proofs.Common.{true, false, ap, ◌∙◌}
 use Rattle.expression.specs.Names.{is_taken}
-use Rattle.compile.specs.Tables.{BinaryNames, binary_at}
+use Rattle.compile.specs.Tables.{binary_at}
 use Rattle.compile.specs.Numbers.{field_of}
 use Rattle.compile.proofs.Rows.{no_binary, some_more, some-all}
 use Rattle.compile.proofs.matching.has_binary.Goals as goal

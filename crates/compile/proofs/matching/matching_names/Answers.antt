@@ -1,6 +1,5 @@
-use Rattle.std.proofs.Common.{◌≡◌, ℕ, ◌≤◌, Bool, List, [], map, length, sym, refl, ap, ◌∙◌, arith}
+use Rattle.std.proofs.Common.{◌≡◌, [], map, sym, ap, ◌∙◌, arith}
 use Rattle.std.proofs.lemmas.List.{get_or-map, length-map}
-use Rattle.glob.specs.declared.place.Place.{Place}
 use Rattle.expression.specs.declared.number_set.NumberSet.{NumberSet}
 use Rattle.expression.specs.Names.{is_taken}
 use Rattle.expression.specs.NumberSets.{width, set_of}

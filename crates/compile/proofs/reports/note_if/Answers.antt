@@ -1,4 +1,4 @@
-use Rattle.std.proofs.Common.{◌≡◌, ℕ, ◌+◌, Bool, true, cond, List, [], ◌∷◌, length, set, Option, sym, refl, ap, ◌∙◌}
+use Rattle.std.proofs.Common.{◌≡◌, ℕ, ◌+◌, Bool, List, [], ◌∷◌, Option, sym, ap, ◌∙◌}
 use lib.Seq.{sets}
 use Rattle.std.proofs.lemmas.List.{set_past}
 use Rattle.errors.specs.declared.reports.Report.{Report}

@@ -1,7 +1,6 @@
-use Rattle.std.proofs.Common.{◌≡◌, ℕ, List, map, Ok, Err, sym, refl, ap, ◌∙◌}
+use Rattle.std.proofs.Common.{Err, sym, ap, ◌∙◌}
 use Rattle.std.proofs.lemmas.Result.{err_from_is_err_and}
-use Rattle.parsing.specs.Tree.{Word}
-use Rattle.compile.specs.Words.{named, word_of}
+use Rattle.compile.specs.Words.{named}
 use Rattle.compile.specs.World.{world}
 use Rattle.compile.specs.Lowered.{emitted, copied, noted}
 use Rattle.compile.proofs.BanTrees.{bans-of, group_of}

@@ -1,9 +1,9 @@
-use Rattle.std.proofs.Common.{◌≡◌, ℕ, ◌+◌, ◌<◌, ◌≤◌, List, [], ◌∷◌, ◌++◌, map, length, get_or, take, drop, vec_items, vec_len, vec_capacity, sym, refl, ap, ◌∙◌, subst, arith, length-append}
+use Rattle.std.proofs.Common.{ℕ, List, [], ◌∷◌, map, length, get_or, take, vec_items, sym, ap, subst, arith, length-append}
 use Rattle.std.proofs.lemmas.List.{map_more, take_all}
 use Rattle.parsing.specs.Tree.{Word}
 use Rattle.compile.specs.declared.reports.Tally.{Tally}
 use Rattle.compile.specs.Reports.{no_reports}
-use Rattle.compile.specs.World.{World, world}
+use Rattle.compile.specs.World.{world}
 use Rattle.compile.specs.Words.{word_of}
 use Rattle.compile.specs.Lowered.{Lowers, State, state, copies}
 use Rattle.compile.proofs.Rows.{no_node}
