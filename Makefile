@@ -1,14 +1,13 @@
 # make run: proves, links and runs the program on its stored input.
-# make test: the whole gate, from nothing.
+# make test: the whole gate.
 SHELL := /bin/bash
 .PHONY: run test listed
 
 run:
-	@rt check pick
-	@target/bin/pick < crates/pick/stdin
+	@cd crates/pick && rt run < stdin
 
 test: listed
-	@rt ci
+	@tools/gate
 
 # Every folder of crates/ has its line in crates.txt, and every line its folder.
 listed:
