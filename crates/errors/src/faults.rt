@@ -6,7 +6,7 @@ ghost use Rattle.std.specs.Prelude.{◌≡◌, length};
 ghost use Rattle.errors.specs.Refusals.{text_in_reading, reading_in_lowering, tables_in_lowering, lowering_in_selector, refused_by, of_text, of_reading, of_lowering, refusal_of};
 
 // The layers, from the lowest up.
-#[derive(Clone, Copy)]
+#[derive(Clone, Copy, PartialEq, Eq, Debug)]
 pub enum Layer {
     Text,
     Tables,
@@ -16,7 +16,7 @@ pub enum Layer {
 }
 
 // What a refused call answers: the number of the refusal, a place in the text, how many reports were made, and the layer.
-#[derive(Clone, Copy)]
+#[derive(Clone, Copy, PartialEq, Eq, Debug)]
 pub struct Refusal {
     pub number: u8,
     pub place: usize,
@@ -25,7 +25,7 @@ pub struct Refusal {
 }
 
 // A text that is not read at all.
-#[derive(Clone, Copy)]
+#[derive(Clone, Copy, PartialEq, Eq, Debug)]
 pub enum TextFault {
     // It has more than 1,024 bytes.
     Long,
@@ -34,11 +34,11 @@ pub enum TextFault {
 }
 
 // Tables with too many rows, or with a name outside the names text.
-#[derive(Clone, Copy)]
+#[derive(Clone, Copy, PartialEq, Eq, Debug)]
 pub struct TablesFault;
 
 // A text that is no filter.
-#[derive(Clone, Copy)]
+#[derive(Clone, Copy, PartialEq, Eq, Debug)]
 pub enum ReadingFault {
     Text(TextFault),
     // A `/` where an unmarked name would begin.
@@ -52,7 +52,7 @@ pub enum ReadingFault {
 }
 
 // A filter that cannot be lowered to the given tables.
-#[derive(Clone, Copy)]
+#[derive(Clone, Copy, PartialEq, Eq, Debug)]
 pub enum LoweringFault {
     Reading(ReadingFault),
     Tables(TablesFault),
@@ -65,7 +65,7 @@ pub enum LoweringFault {
 }
 
 // A call that the selector refuses.
-#[derive(Clone, Copy)]
+#[derive(Clone, Copy, PartialEq, Eq, Debug)]
 pub enum SelectorFault {
     Lowering(LoweringFault),
     // A default was fixed, or a filter admitted, before.
@@ -118,6 +118,7 @@ impl From<LoweringFault> for SelectorFault {
     }
 }
 
+// The number is what a refused call answers: it stands beside the fault that it is the number of, and an enum of numbers would name each fault twice.
 fn refused(layer: Layer, number: u8, place: usize, count: usize) -> Refusal
     ensures { result ≡ refused_by layer number place count }
 {

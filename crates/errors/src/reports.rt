@@ -2,13 +2,14 @@
 // SPDX-License-Identifier: MIT OR Apache-2.0
 
 // Reports: what is wrong at which part of a filter's text.
-ghost use Rattle.std.specs.Prelude.{◌≡◌, ◌++◌, length, Some, codes, decimal, slice_index_or};
+ghost use Rattle.std.specs.Prelude.{◌≡◌, [], ◌∷◌, ◌++◌, length, Some, codes, decimal, slice_index_or};
 ghost use Rattle.errors.specs.Kinds.{name_of, number_of, kinds};
+ghost use Rattle.errors.specs.Reports.{log, made};
 
 use std::fmt;
 
 // The kinds of report.
-#[derive(Clone, Copy)]
+#[derive(Clone, Copy, PartialEq, Eq, Debug)]
 pub enum ReportKind {
     // A glob that is not well formed.
     InvalidGlob,
@@ -60,7 +61,7 @@ impl ReportKind {
         self as u8
     }
 
-    // The kind's name, as it is printed.
+    // The kind's name, as it is printed. Each is written out, since the names are promised and a derived `Debug` promises none.
     pub fn name(self) -> &'static str
         ensures { result.now ≡ name_of self }
     {
@@ -88,8 +89,17 @@ impl ReportKind {
     }
 }
 
+// Shown by its name.
+impl fmt::Display for ReportKind {
+    ghost output = { λ k. Some (name_of k) };
+
+    fn fmt<W: fmt::Write>(&self, f: &mut fmt::Formatter<W>) -> fmt::Result {
+        f.write_str(self.name())
+    }
+}
+
 // A report: its kind, and the part of the text that it speaks of, in bytes.
-#[derive(Clone, Copy)]
+#[derive(Clone, Copy, PartialEq, Eq, Debug)]
 pub struct Report {
     pub kind: ReportKind,
     pub start: usize,
@@ -101,9 +111,31 @@ impl fmt::Display for Report {
     ghost output = { λ x. Some (name_of x.kind ++ (codes "@" ++ (decimal x.start ++ (codes "+" ++ decimal x.length)))) };
 
     fn fmt<W: fmt::Write>(&self, f: &mut fmt::Formatter<W>) -> fmt::Result {
-        let name = self.kind.name();
-        let start = self.start;
-        let length = self.length;
-        write!(f, "{name}@{start}+{length}")
+        write!(f, "{}@{}+{}", self.kind, self.start, self.length)
+    }
+}
+
+// Reports on one text: a lent table that holds the first ones, as many as fit; how many were made; and where the first starts.
+#[derive(Drop)]
+pub struct Reports<'a> {
+    pub table: &'a mut [Report],
+    pub count: usize,
+    pub first: Option<usize>,
+}
+
+impl Reports<'_> {
+    // Makes a report, and keeps it while the table has room.
+    pub fn report(&mut self, kind: ReportKind, start: usize, length: usize)
+        ensures { log self.new ≡ made (log self.old) (record { kind = kind; start = start; length = length } ∷ []) }
+    {
+        self.first = self.first.or(Some(start));
+        if self.count < self.table.len() {
+            self.table[self.count] = Report {
+                kind,
+                start,
+                length,
+            };
+        }
+        self.count = self.count.saturating_add(1);
     }
 }

@@ -5,7 +5,7 @@ use crate::faults::TextFault;
 use std::str::from_utf8;
 
 // The longest text that is read, in bytes.
-const LONGEST: usize = 1024;
+pub const LONGEST: usize = 1024;
 
 // The text, unless it is long or else garbled.
 pub fn check_text(text: &[u8]) -> Result<&str, TextFault>
@@ -14,10 +14,7 @@ pub fn check_text(text: &[u8]) -> Result<&str, TextFault>
     if text.len() > LONGEST {
         return Err(TextFault::Long);
     }
-    match from_utf8(text) {
-        Ok(s) => Ok(s),
-        Err(e) => Err(TextFault::Garbled {
-            place: e.valid_up_to(),
-        }),
-    }
+    from_utf8(text).map_err(|e| TextFault::Garbled {
+        place: e.valid_up_to(),
+    })
 }
