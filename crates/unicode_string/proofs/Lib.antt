@@ -11,4 +11,4 @@ pub mod Naming
 pub mod Sound
 pub mod Whole
 pub mod Meanings
-pub mod Texts
+pub mod WellFormed

@@ -6,14 +6,16 @@ use Rattle.std.proofs.lemmas.Bool.Decides.{nat_tests}
 use Rattle.unicode_string.specs.declared.Escape.{Escape}
 use Rattle.unicode_string.specs.declared.Digits.{Digits}
 use Rattle.errors.specs.declared.reports.Report.{Report}
-use Rattle.unicode_string.specs.Text.{is_plain, plains, run_end, hex_of, letter_of, digits_at, closed, unicode_at, escape_at}
+use Rattle.std.specs.List.{prefix_len}
+use Rattle.std.proofs.lemmas.List.Sums.{prefix_len_passes, prefix_len_stops}
+use Rattle.unicode_string.specs.Text.{is_plain, run_end, hex_of, letter_of, digits_at, closed, unicode_at, escape_at}
 use Rattle.unicode_string.specs.declared.Name.{Name}
 use Rattle.unicode_string.specs.Names.{spelt, in_space, in_text, Out, Named, whole, decoded, more, escaped, frag_at, frags_at, done}
 use Rattle.unicode_string.specs.Grammar.{Plain, Run, Letter, Hex, Number, Unicode, Escaped, Fragment, Fragments, Ends, Spells}
 use Rattle.unicode_string.proofs.Found.{Sound-names}
 use Rattle.unicode_string.proofs.Numbers.{digits-stop, digits-on}
-use Rattle.unicode_string.proofs.Escapes.{opened, unopened, unicoded, lettered}
-use Rattle.unicode_string.proofs.Frags.{run-from, frag-plain, frag-escape, digits-far, within, closed_parts, some-single, plain-moves, escape-sized, more_within, run-within, frag-moves}
+use Rattle.unicode_string.proofs.Escapes.{within, opened, unopened, unicoded, lettered}
+use Rattle.unicode_string.proofs.Frags.{run-from, frag-plain, frag-escape, digits-far, closed_parts, some-single, plain-moves, escape-sized, more_within, run-within, frag-moves}
 use Rattle.unicode_string.proofs.Loops.{frags-end, frags-more, fueled}
 use Rattle.unicode_string.proofs.Naming.{name-escape, name-plain, whole-none, whole-some, found_none}
 use Rattle.unicode_string.proofs.Ends.{run-here}
@@ -134,34 +136,16 @@ escape-sound t p e h = elim (cases_Bool (eqb (get_or t (p + 1) 0) 117)) [
       Escaped.letter (omega (arith, s.1)) (escape-sized t (p + 1) e h).within (letter-sound (get_or t (p + 1) 0) e.code s.0)
 ]
 
-each-plain : (l : List ℕ) (k : ℕ) → k < plains l → is_plain (get_or l k 0) ≡ true
-unfolding plains
-each-plain [] k h = absurd (omega arith)
-each-plain (b ∷ l) k h = at (each-plain l) (is_plain b) refl k h
-  where
-    at : ((k : ℕ) → k < plains l → is_plain (get_or l k 0) ≡ true) → (v : Bool) → is_plain b ≡ v → (k : ℕ) → k < cond v (suc (plains l)) 0 → is_plain (get_or (b ∷ l) k 0) ≡ true
-    at ih true e zero h = e
-    at ih true e (suc k) h = ih k (omega arith)
-    at ih false e k h = absurd (omega arith)
-
-stop-plain : (l : List ℕ) → plains l < length l → is_plain (get_or l (plains l) 0) ≡ false
-unfolding plains
-stop-plain [] h = absurd (omega arith)
-stop-plain (b ∷ l) h = at (stop-plain l) (is_plain b) refl h
-  where
-    at : (plains l < length l → is_plain (get_or l (plains l) 0) ≡ false) → (v : Bool) → is_plain b ≡ v → cond v (suc (plains l)) 0 < suc (length l) → is_plain (get_or (b ∷ l) (cond v (suc (plains l)) 0) 0) ≡ false
-    at ih true e h = ih (omega arith)
-    at ih false e h = e
-
 pub run_sound : (t : List ℕ) (p : ℕ) → p < run_end t p → p ≤ length t → Run t p (run_end t p)
 unfolding run_end
 run_sound t p o h = record {
   order = o;
   within = run-within t p h;
-  each = λ k le lt. plain-from (get_or t k 0) (let same : p + (k - p) ≡ k = omega arith in ap is_plain (sym (ap (λ (m : ℕ). get_or t m 0) same) ∙ sym (get_or-drop p t (k - p) 0)) ∙ each-plain (drop p t) (k - p) (omega arith));
+  each = λ k le lt. plain-from (get_or t k 0) (let same : p + (k - p) ≡ k = omega arith in ap is_plain (sym (ap (λ (m : ℕ). get_or t m 0) same) ∙ sym (get_or-drop p t (k - p) 0)) ∙ prefix_len_passes is_plain (drop p t) (k - p) 0 (omega arith));
   longest = λ lt pl.
-      let f : is_plain (get_or t (p + plains (drop p t)) 0) ≡ false = ap is_plain (sym (get_or-drop p t (plains (drop p t)) 0)) ∙ stop-plain (drop p t) (omega (arith, length-drop p t)) in
-      let y = plain-to (get_or t (p + plains (drop p t)) 0) pl in
+      let n = prefix_len is_plain (drop p t) in
+      let f : is_plain (get_or t (p + n) 0) ≡ false = ap is_plain (sym (get_or-drop p t n 0)) ∙ prefix_len_stops is_plain (drop p t) 0 (omega (arith, length-drop p t)) in
+      let y = plain-to (get_or t (p + n) 0) pl in
       let z : true ≡ false = sym y ∙ f in
       grind (arith, nat_tests);
 }

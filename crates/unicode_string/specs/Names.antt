@@ -1,13 +1,12 @@
 -- What reading a name gives: from a place, the place after, the reports made, the bytes decoded, and the name.
-use Rattle.std.specs.Prelude.{◌≡◌, ℕ, zero, suc, ◌+◌, ◌-◌, ◌^◌, min, Bool, true, cond, not, ◌&&◌, List, [], ◌∷◌, ◌++◌, length, take, drop, Some, None, Option, ◌==◌, nat_le, nat_lt, slice_index}
+use Rattle.std.specs.Prelude.{◌≡◌, ℕ, zero, suc, ◌+◌, ◌-◌, ◌^◌, min, Bool, true, cond, not, ◌&&◌, List, [], ◌∷◌, ◌++◌, length, take, drop, Some, None, Ok, Err, Option, Result, ◌==◌, nat_le, nat_lt, slice_index}
 use Rattle.std.proofs.Math.Utf8.{encode, scalar}
-use Rattle.std.specs.Option.{option_or}
 use Rattle.errors.specs.declared.reports.ReportKind.TheVariants.{InvalidEscapeCharacter, InvalidString}
 use Rattle.errors.specs.declared.reports.Report.{Report}
 use Rattle.glob.specs.declared.place.Place.{Place}
 use Rattle.glob.specs.Parts.{part_of}
 use Rattle.unicode_string.specs.declared.Name.{Name}
-use Rattle.unicode_string.specs.declared.NameRead.{NameRead}
+use Rattle.unicode_string.specs.declared.NoRoom.{NoRoom}
 use Rattle.unicode_string.specs.declared.Name.TheVariants.{InText, InSpace}
 use Rattle.unicode_string.specs.declared.StringFragment.{StringFragment}
 use Rattle.unicode_string.specs.declared.StringFragment.TheVariants.{Literal, EscapedChar}
@@ -109,11 +108,6 @@ abbrev pub bytes_in : List ℕ → List ℕ → Name → Option (List ℕ)
 bytes_in t s (InText at) = part_of t at
 bytes_in t s (InSpace at) = part_of s at
 
--- the start of the first report, where f is that of an earlier one
-abbrev pub first_start : Option ℕ → List Report → Option ℕ
-first_start f [] = f
-first_start f (r ∷ rs) = option_or f (Some r.start)
-
 -- there is room for what the bytes from p on can make: in the decoding space from u on, and in the count c
 abbrev pub has_room : List ℕ → ℕ → ℕ → ℕ → Bool
 has_room t p c u = nat_le p (length t) && (nat_le (u + (length t - p)) 1024 && nat_lt (c + (length t - p) + 1) (2 ^ 64))
@@ -123,8 +117,5 @@ abbrev pub out_at : List ℕ → ℕ → ℕ → ℕ → Out
 out_at t p c u = cond (has_room t p c u) (name_at t p u).out (done p)
 
 -- what the call that reads a name answers
-abbrev pub read_at : List ℕ → ℕ → ℕ → ℕ → Option NameRead
-read_at t p c u =
-    cond (has_room t p c u)
-    (Some (record { name = (name_at t p u).name; end = (name_at t p u).out.at; count = c + length (name_at t p u).out.reports; used = u + length (name_at t p u).out.bytes; first = first_start None (name_at t p u).out.reports }))
-    None
+abbrev pub named_at : List ℕ → ℕ → ℕ → ℕ → Result (Option Name) NoRoom
+named_at t p c u = cond (has_room t p c u) (Ok (name_at t p u).name) (Err (record {}))

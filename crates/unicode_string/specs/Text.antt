@@ -1,8 +1,13 @@
 -- What stands at a place of a text: a run, an escape, a digit.
-use Rattle.std.specs.Prelude.{ℕ, zero, suc, ◌+◌, ◌-◌, ◌*◌, Bool, cond, not, ◌&&◌, ◌||◌, List, [], ◌∷◌, drop, Some, None, Option, ◌==◌, nat_le, slice_index}
+use Rattle.std.specs.Prelude.{ℕ, zero, suc, ◌+◌, ◌-◌, ◌*◌, Bool, cond, not, ◌&&◌, ◌||◌, List, length, drop, Some, None, Option, ◌==◌, nat_le, nat_lt, slice_index}
+use Rattle.std.specs.List.{prefix_len}
 use Rattle.std.proofs.Math.Utf8.{scalar}
 use Rattle.unicode_string.specs.declared.Escape.{Escape}
 use Rattle.unicode_string.specs.declared.Digits.{Digits}
+
+-- the byte stands at p
+abbrev pub is_at : List ℕ → ℕ → ℕ → Bool
+is_at t p b = nat_lt p (length t) && slice_index t p == b
 
 -- an ASCII letter, a digit or `_`
 unfoldable pub is_word : ℕ → Bool
@@ -11,6 +16,10 @@ is_word b = (nat_le 48 b && nat_le b 57) || (nat_le 65 b && nat_le b 90) || (nat
 -- the value of a hexadecimal digit; 255 for any other byte
 unfoldable pub hex_of : ℕ → ℕ
 hex_of b = cond (nat_le 48 b && nat_le b 57) (b - 48) (cond (nat_le 65 b && nat_le b 70) (b - 55) (cond (nat_le 97 b && nat_le b 102) (b - 87) 255))
+
+-- that value, if the byte is a digit
+abbrev pub digit_of : ℕ → Option ℕ
+digit_of b = cond (hex_of b == 255) None (Some (hex_of b))
 
 abbrev pub letter_of : ℕ → Option ℕ
 letter_of c =
@@ -42,10 +51,6 @@ escape_at t p = cond (slice_index t p == 117) (unicode_at t (p + 1)) (single (le
 abbrev pub is_plain : ℕ → Bool
 is_plain b = not (b == 44) && not (b == 41) && not (b == 92)
 
-unfoldable pub plains : List ℕ → ℕ
-plains [] = 0
-plains (b ∷ t) = cond (is_plain b) (suc (plains t)) 0
-
 -- the end of the longest run from p on
 unfoldable pub run_end : List ℕ → ℕ → ℕ
-run_end t p = p + plains (drop p t)
+run_end t p = p + prefix_len is_plain (drop p t)

@@ -1,9 +1,11 @@
--- A cursor as a plain state, and what a reading makes of it.
+-- A source as a plain state, and what a reading makes of it.
 use Rattle.std.specs.Prelude.{◌≡◌, ℕ, ◌+◌, ◌-◌, ◌^◌, ◌<◌, ◌≤◌, List, length, Option}
 use Rattle.std.proofs.lemmas.List.Edits.{sets}
-use Rattle.unicode_string.specs.declared.Cursor.{Cursor}
+use Rattle.unicode_string.specs.declared.Source.{Source}
+use Rattle.unicode_string.specs.declared.decoded.Decoded.{Decoded}
 use Rattle.errors.specs.declared.reports.Report.{Report}
-use Rattle.unicode_string.specs.Names.{Out, first_start}
+use Rattle.unicode_string.specs.Names.{Out}
+use Rattle.errors.specs.Reports.{first_start}
 
 pub record St : Type 0 where
   pub text : List ℕ
@@ -16,8 +18,8 @@ pub record St : Type 0 where
   pub lent : ℕ
   pub held : ℕ
 
-abbrev pub view : Cursor → St
-view c = record { text = c.text.now; pos = c.pos; count = c.count; first = c.first; table = c.table.now; used = c.used; space = c.space.now; lent = c.table.ghost_name; held = c.space.ghost_name }
+abbrev pub view : Source → St
+view c = record { text = c.text.now; pos = c.pos; count = c.reports.count; first = c.reports.first; table = c.reports.table.now; used = c.decoded.used; space = c.decoded.space.now; lent = c.reports.table.ghost_name; held = c.decoded.space.ghost_name }
 
 abbrev pub grow : St → Out → St
 grow s o = record { text = s.text; pos = o.at; count = s.count + length o.reports; first = first_start s.first o.reports; table = sets s.table s.count o.reports; used = s.used + length o.bytes; space = sets s.space s.used o.bytes; lent = s.lent; held = s.held }
@@ -31,3 +33,16 @@ pub record Roomy (s : St) : Type 0 where
   pub within : s.pos ≤ length s.text
   pub room : s.used + (length s.text - s.pos) ≤ 1024
   pub few : s.count + (length s.text - s.pos) + 1 < 2 ^ 64
+
+-- the decoding space alone: its bytes, how many are used, and whose it is
+pub record Filling : Type 0 where
+  pub space : List ℕ
+  pub used : ℕ
+  pub held : ℕ
+
+abbrev pub filling : Decoded → Filling
+filling d = record { space = d.space.now; used = d.used; held = d.space.ghost_name }
+
+-- after further bytes, behind those before
+abbrev pub filled : Filling → List ℕ → Filling
+filled f b = record { space = sets f.space f.used b; used = f.used + length b; held = f.held }

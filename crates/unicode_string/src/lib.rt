@@ -4,23 +4,26 @@
 #![tactic(auto)]
 
 // Names of a filter: runs of text and escapes.
-ghost use Rattle.std.specs.Prelude.{◌≡◌, ℕ, ◌+◌, ◌-◌, ◌*◌, ◌^◌, ◌<◌, ◌≤◌, Bool, true, false, cond, [], ◌∷◌, length, IfSome};
-ghost use Rattle.std.proofs.lemmas.List.Edits.{sets};
+ghost use Rattle.std.specs.Prelude.{◌≡◌, ℕ, ◌+◌, ◌-◌, ◌*◌, ◌^◌, ◌<◌, ◌≤◌, Bool, true, false, cond, length, IfOk, IfSome, slice_index};
 ghost use Rattle.std.proofs.Math.Utf8.{encode, scalar};
 ghost use Rattle.std.specs.Option.{option_map};
-ghost use Rattle.unicode_string.specs.Names.{frag_at, frags_at, name_at, moved, note, write, bytes_of, Scalar, more, bytes_in, place_of, has_room, out_at, read_at};
+ghost use Rattle.std.specs.List.{prefix_len};
+ghost use Rattle.glob.specs.Parts.{part_of};
+ghost use Rattle.unicode_string.specs.Names.{frag_at, frags_at, name_at, moved, bytes_of, Scalar, more, bytes_in, place_of, out_at, has_room, named_at};
 ghost use Rattle.unicode_string.specs.Grammar.{Meant};
 ghost use Rattle.unicode_string.specs.View.{view, Ran, Roomy};
-ghost use Rattle.unicode_string.specs.Text.{is_plain, run_end, letter_of, digits_at, unicode_at, escape_at};
+ghost use Rattle.unicode_string.specs.Text.{is_plain, run_end, is_at, letter_of, digit_of, digits_at, unicode_at, escape_at};
 
-use errors::reports::{Report, ReportKind};
+use decoded::Decoded;
+use errors::reports::{ReportKind, Reports};
 use glob::place::Place;
 use tables::hex_value;
 
+pub mod decoded;
 pub mod tables;
 
 // A name is a part of the text itself or, with an escape in it, of the decoding space.
-#[derive(Clone, Copy)]
+#[derive(Clone, Copy, PartialEq, Eq, Debug)]
 pub enum Name {
     InText(Place),
     InSpace(Place),
@@ -33,21 +36,31 @@ pub struct NamePart<'a> {
     pub place: Place,
 }
 
-// What reading a name comes to: the name, unless it was reported as faulty; the place after it; how many reports there are
-// now; how far the decoding space is used; and where its first report starts.
+// Where names lie: in a text, and in the decoding space that was filled from it.
 #[derive(Clone, Copy)]
-pub struct NameRead {
-    pub name: Option<Name>,
-    pub end: usize,
-    pub count: usize,
-    pub used: usize,
-    pub first: Option<usize>,
+pub struct Texts<'a> {
+    pub text: &'a [u8],
+    pub space: &'a [u8; 1024],
 }
+
+// A text that is read: the place to go on at, the reports made on it, and what was decoded from it.
+#[derive(Drop)]
+pub struct Source<'a> {
+    pub text: &'a [u8],
+    pub pos: usize,
+    pub reports: Reports<'a>,
+    pub decoded: Decoded<'a>,
+}
+
+// There may be no room for the bytes or the reports that a name can make.
+#[derive(Clone, Copy, PartialEq, Eq, Debug)]
+pub struct NoRoom;
 
 // A run of text, or one decoded character as its code point.
 #[derive(Clone, Copy)]
 enum StringFragment<'a> {
     Literal(&'a [u8]),
+    // The project's form for a decoded character is a number.
     EscapedChar(u32),
 }
 
@@ -61,21 +74,19 @@ struct Escape {
 // How many more digits there may be, the place after those read, and their number.
 #[derive(Clone, Copy)]
 struct Digits {
-    left: u8,
+    left: usize,
     next: usize,
     code: u32,
 }
 
-// A place in the text, the reports made, and the decoding space with what is used of it.
-#[derive(Drop)]
-struct Cursor<'a> {
-    text: &'a [u8],
-    pos: usize,
-    count: usize,
-    first: Option<usize>,
-    table: &'a mut [Report],
-    used: usize,
-    space: &'a mut [u8; 1024],
+// The digits of a code point, at most.
+const MOST_DIGITS: usize = 6;
+
+// Whether the byte stands at `at`.
+pub fn is_at(text: &[u8], at: usize, byte: u8) -> bool
+    ensures { result ≡ is_at text.now at byte }
+{
+    text.get(at) == Some(&byte)
 }
 
 // What the character after a backslash stands for.
@@ -96,63 +107,62 @@ fn letter(c: char) -> Option<u32>
     }
 }
 
+// The digit at `at`.
+fn digit(text: &[u8], at: usize) -> Option<u8>
+    ensures { result ≡ digit_of (slice_index text.now at) }
+{
+    hex_value(*text.get(at)?)
+}
+
 // As many digits as there are, at most six.
 fn parse_hex(text: &[u8], from: usize) -> Digits
-    requires { from ≤ length text.now }
-    ensures value { result ≡ digits_at text.now 6 from 0 }
-    ensures within { result.next ≤ length text.now }
+    ensures { result ≡ digits_at text.now 6 from 0 }
 {
-    let mut code = 0;
-    let mut next = from;
-    let mut left = 6;
-    while left > 0 {
-        if next >= text.len() {
-            return Digits { left, next, code };
-        }
-        let d = hex_value(text[next]);
-        if d == 255 {
-            return Digits { left, next, code };
-        }
-        code = code * 16 + d as u32;
-        next += 1;
-        left -= 1;
+    let mut digits = Digits {
+        left: MOST_DIGITS,
+        next: from,
+        code: 0,
+    };
+    for read in 0..MOST_DIGITS {
+        let Some(value) = digit(text, digits.next) else {
+            return digits;
+        };
+        digits = Digits {
+            left: digits.left - 1,
+            next: digits.next + 1,
+            code: digits.code * 16 + value as u32,
+        };
     }
-    Digits { left, next, code }
+    digits
 }
 
 // `{`, one to six digits of a scalar value, and `}`.
 fn parse_unicode(text: &[u8], at: usize) -> Option<Escape>
-    requires { at ≤ length text.now }
     ensures { result ≡ unicode_at text.now at }
 {
-    if at >= text.len() || text[at] != b'{' {
+    if !is_at(text, at, b'{') {
         return None;
     }
     let d = parse_hex(text, at + 1);
-    if d.left == 6 || d.next >= text.len() || text[d.next] != b'}' {
+    if d.left == MOST_DIGITS || !is_at(text, d.next, b'}') {
         return None;
     }
-    match char::from_u32(d.code) {
-        Some(_) => Some(Escape {
-            code: d.code,
-            next: d.next + 1,
-        }),
-        None => None,
-    }
+    char::from_u32(d.code)?;
+    Some(Escape {
+        code: d.code,
+        next: d.next + 1,
+    })
 }
 
 // What stands after a backslash.
 fn parse_escaped_char(text: &[u8], at: usize) -> Option<Escape>
-    requires { at ≤ length text.now }
     ensures { result ≡ escape_at text.now at }
 {
-    if at >= text.len() {
-        return None;
-    }
-    if text[at] == b'u' {
+    let byte = *text.get(at)?;
+    if byte == b'u' {
         return parse_unicode(text, at + 1);
     }
-    let code = letter(text[at] as char)?;
+    let code = letter(byte as char)?;
     Some(Escape { code, next: at + 1 })
 }
 
@@ -162,6 +172,13 @@ fn plain(b: u8) -> bool
     b != b',' && b != b')' && b != b'\\'
 }
 
+// How many plain bytes come first.
+fn run_length(bytes: &[u8]) -> usize
+    ensures { result ≡ prefix_len is_plain bytes.now }
+{
+    bytes.iter().take_while(|b| plain(**b)).count()
+}
+
 // Where the run that begins at `from` ends.
 fn literal_end(text: &[u8], from: usize) -> usize
     requires { from ≤ length text.now }
@@ -169,68 +186,24 @@ fn literal_end(text: &[u8], from: usize) -> usize
     ensures onward { from ≤ result }
     ensures within { result ≤ length text.now }
 {
-    let mut i = from;
-    while i < text.len() && plain(text[i]) {
-        i += 1;
-    }
-    i
+    from + run_length(&text[from..])
 }
 
-impl<'a> Cursor<'a> {
-    fn report(&mut self, kind: ReportKind, start: usize, length: usize)
-        requires { self.old.count + 1 < 2 ^ 64 }
-        ensures { Ran (view self.old) (note (record { kind = kind; start = start; length = length }) self.old.pos) (view self.new) }
-    {
-        self.first = self.first.or(Some(start));
-        if self.count < self.table.len() {
-            self.table[self.count] = Report {
-                kind,
-                start,
-                length,
-            };
-        }
-        self.count += 1;
-    }
-
-    fn put(&mut self, b: u8)
-        requires { self.old.used < 1024 }
-        ensures { Ran (view self.old) (write (b ∷ []) self.old.pos) (view self.new) }
-    {
-        self.space[self.used] = b;
-        self.used += 1;
-    }
-
-    fn put_all(&mut self, s: &[u8])
-        requires { self.old.used + length s.now ≤ 1024 }
-        ensures { Ran (view self.old) (write s.now self.old.pos) (view self.new) }
-    {
-        for b in s {
-            self.put(*b);
-        }
-    }
-
-    fn put_char(&mut self, code: u32)
-        requires good { scalar code ≡ true }
-        requires room { self.old.used + length (encode code) ≤ 1024 }
-        ensures { Ran (view self.old) (write (encode code) self.old.pos) (view self.new) }
-    {
-        if let Some(c) = char::from_u32(code) {
-            let mut bytes = [0; 4];
-            self.put_all(c.encode_utf8(&mut bytes).as_bytes());
-        }
-    }
-
+impl<'a> Source<'a> {
     // Whether a name goes on here.
     fn more(&self) -> bool
         ensures { result ≡ more self.now.text.now self.now.pos }
     {
-        self.pos < self.text.len() && self.text[self.pos] != b',' && self.text[self.pos] != b')'
+        match self.text.get(self.pos) {
+            Some(b) => *b != b',' && *b != b')',
+            None => false,
+        }
     }
 
     // The fragment that begins here. An invalid escape is reported.
     fn parse_fragment(&mut self) -> Option<StringFragment<'a>>
         requires here { more self.old.text.now self.old.pos ≡ true }
-        requires few { self.old.count + 1 < 2 ^ 64 }
+        requires few { self.old.reports.count + 1 < 2 ^ 64 }
         ensures ran { Ran (view self.old) (moved (frag_at self.old.text.now self.old.pos)) (view self.new) }
         ensures value { bytes_of result ≡ (frag_at self.old.text.now self.old.pos).bytes }
         ensures good { Scalar result }
@@ -248,11 +221,9 @@ impl<'a> Cursor<'a> {
             }
             None => {
                 self.pos = start + 1;
-                self.report(
-                    ReportKind::InvalidEscapeCharacter,
-                    start,
-                    (self.text.len() - start).min(2),
-                );
+                let length = (self.text.len() - start).min(2);
+                self.reports
+                    .report(ReportKind::InvalidEscapeCharacter, start, length);
                 None
             }
         }
@@ -264,12 +235,10 @@ impl<'a> Cursor<'a> {
         requires room { Roomy (view self.old) }
         ensures { Ran (view self.old) (frag_at self.old.text.now self.old.pos) (view self.new) }
     {
-        let Some(f) = self.parse_fragment() else {
-            return;
-        };
-        match f {
-            StringFragment::Literal(s) => self.put_all(s),
-            StringFragment::EscapedChar(code) => self.put_char(code),
+        match self.parse_fragment() {
+            Some(StringFragment::Literal(s)) => self.decoded.put_all(s),
+            Some(StringFragment::EscapedChar(code)) => self.decoded.put_char(code),
+            None => {}
         }
     }
 
@@ -285,26 +254,26 @@ impl<'a> Cursor<'a> {
 
     fn parse_name(&mut self) -> Option<Name>
         requires { Roomy (view self.old) }
-        ensures ran { Ran (view self.old) (name_at self.old.text.now self.old.pos self.old.used).out (view self.new) }
-        ensures found { result ≡ (name_at self.old.text.now self.old.pos self.old.used).name }
+        ensures ran { Ran (view self.old) (name_at self.old.text.now self.old.pos self.old.decoded.used).out (view self.new) }
+        ensures found { result ≡ (name_at self.old.text.now self.old.pos self.old.decoded.used).name }
     {
         let start = self.pos;
         let end = literal_end(self.text, start);
-        if end < self.text.len() && self.text[end] == b'\\' {
-            let from = self.used;
-            let before = self.count;
+        if is_at(self.text, end, b'\\') {
+            let from = self.decoded.used;
+            let before = self.reports.count;
             self.decode();
-            if self.count > before {
+            if self.reports.count > before {
                 return None;
             }
             return Some(Name::InSpace(Place {
                 start: from,
-                length: self.used - from,
+                length: self.decoded.used - from,
             }));
         }
         self.pos = end;
         if end == start {
-            self.report(ReportKind::InvalidString, end, 0);
+            self.reports.report(ReportKind::InvalidString, end, 0);
             return None;
         }
         Some(Name::InText(Place {
@@ -312,69 +281,51 @@ impl<'a> Cursor<'a> {
             length: end - start,
         }))
     }
-}
 
-// Whether there is room for what the bytes from `at` on can make, in the decoding space and in the count.
-fn has_room(text: &[u8], at: usize, count: usize, used: usize) -> bool
-    ensures { result ≡ has_room text.now at count used }
-{
-    if at > text.len() {
-        return false;
-    }
-    let left = text.len() - at;
-    left <= 1024 && used <= 1024 - left && count < usize::MAX - left
-}
-
-// Reads the name at `at`, up to the next `,` or `)` that no backslash escapes. The first reports stand in the table from `count` on,
-// the decoded bytes of a name with an escape in the space from `used` on. Without room for them nothing is read.
-pub fn parse_string(
-    text: &[u8],
-    at: usize,
-    reports: &mut [Report],
-    count: usize,
-    space: &mut [u8; 1024],
-    used: usize,
-) -> Option<NameRead>
-    ensures read { result ≡ read_at text.now at count used }
-    ensures reports { reports.new ≡ sets reports.old count (out_at text.now at count used).reports }
-    ensures space { space.new ≡ sets space.old used (out_at text.now at count used).bytes }
-    ensures meant { IfSome result (λ x. Meant text.now space.new at count x) }
-{
-    if !has_room(text, at, count, used) {
-        return None;
-    }
-    let mut cursor = Cursor {
-        text,
-        pos: at,
-        count,
-        first: None,
-        table: reports,
-        used,
-        space,
-    };
-    let name = cursor.parse_name();
-    Some(NameRead {
-        name,
-        end: cursor.pos,
-        count: cursor.count,
-        used: cursor.used,
-        first: cursor.first,
-    })
-}
-
-// A name's bytes, as a part of the text or of the decoding space, with their place; none if they lie outside.
-pub fn name_part<'a>(text: &'a [u8], space: &'a [u8; 1024], name: Name) -> Option<NamePart<'a>>
-    ensures bytes { option_map (λ p. p.bytes.now) result ≡ bytes_in text.now space.now name }
-    ensures place { IfSome result (λ p. p.place ≡ place_of name) }
-{
-    match name {
-        Name::InText(place) => {
-            let bytes = place.of(text)?;
-            Some(NamePart { bytes, place })
+    // Whether there is room for what the bytes that are left can make, in the decoding space and in the count.
+    fn has_room(&self) -> bool
+        ensures { result ≡ has_room self.now.text.now self.now.pos self.now.reports.count self.now.decoded.used }
+    {
+        let size = self.decoded.space.len();
+        if self.pos > self.text.len() {
+            return false;
         }
-        Name::InSpace(place) => {
-            let bytes = place.of(space)?;
-            Some(NamePart { bytes, place })
+        let left = self.text.len() - self.pos;
+        left <= size && self.decoded.used <= size - left && self.reports.count < usize::MAX - left
+    }
+
+    // Reads the name that begins here, up to the next `,` or `)` that no backslash escapes; none if it is faulty, which is reported.
+    // The decoded bytes of a name with an escape follow those before. Without room for what it can make nothing is read.
+    pub fn parse_string(&mut self) -> Result<Option<Name>, NoRoom>
+        ensures read { result ≡ named_at self.old.text.now self.old.pos self.old.reports.count self.old.decoded.used }
+        ensures ran { Ran (view self.old) (out_at self.old.text.now self.old.pos self.old.reports.count self.old.decoded.used) (view self.new) }
+        ensures meant { IfOk result (λ n. Meant self.old.text.now (view self.new).space self.old.pos self.old.reports.count n self.new.pos self.new.reports.count) }
+    {
+        if !self.has_room() {
+            return Err(NoRoom);
+        }
+        Ok(self.parse_name())
+    }
+}
+
+fn part_of(text: &[u8], place: Place) -> Option<NamePart<'_>>
+    ensures bytes { option_map (λ p. p.bytes.now) result ≡ part_of text.now place }
+    ensures place { IfSome result (λ p. p.place ≡ place) }
+{
+    let bytes = place.of(text)?;
+    Some(NamePart { bytes, place })
+}
+
+impl<'a> Texts<'a> {
+    // A name's bytes, as a part of the text or of the decoding space, with their place; none if they lie outside.
+    pub fn part(self, name: Name) -> Option<NamePart<'a>>
+        ensures bytes { option_map (λ p. p.bytes.now) result ≡ bytes_in self.entry.text.now self.entry.space.now name }
+        ensures place { IfSome result (λ p. p.place ≡ place_of name) }
+    {
+        let Texts { text, space } = self;
+        match name {
+            Name::InText(place) => part_of(text, place),
+            Name::InSpace(place) => part_of(space, place),
         }
     }
 }

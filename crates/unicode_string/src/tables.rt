@@ -3,7 +3,7 @@
 
 // Two tables with an entry for each byte.
 ghost use Rattle.std.specs.Prelude.{◌≡◌};
-ghost use Rattle.unicode_string.specs.Text.{is_word, hex_of};
+ghost use Rattle.unicode_string.specs.Text.{is_word, digit_of};
 
 // Whether a byte is an ASCII letter, a digit or `_`.
 #[rattlefmt::skip]
@@ -54,9 +54,10 @@ pub fn is_word(b: u8) -> bool
     WORD[b as usize]
 }
 
-// The value of a hexadecimal digit, and 255 for any other byte.
-pub(crate) fn hex_value(b: u8) -> u8
-    ensures { result ≡ hex_of b }
+// The value of a hexadecimal digit.
+pub(crate) fn hex_value(b: u8) -> Option<u8>
+    ensures { result ≡ digit_of b }
 {
-    HEX[b as usize]
+    let value = HEX[b as usize];
+    if value == 255 { None } else { Some(value) }
 }

@@ -1,30 +1,37 @@
-use Rattle.std.proofs.Common.{◌≡◌, ◌<◌, get_or, ◌∙◌, arith, rules}
-use Rattle.unicode_string.specs.Text.{hex_of}
-use Rattle.unicode_string.proofs.Hexes.{hex-small}
-use Rattle.unicode_string.proofs.Numbers.{digits-stop, digits-past, digits-none, digits-on, room, fits}
+use Rattle.std.proofs.Common.{◌<◌, length, sym, ap, ◌+◌, ◌*◌, ◌-◌, ℕ, ◌∙◌, arith, rules}
+use Rattle.unicode_string.specs.Text.{digits_at}
+use Rattle.unicode_string.proofs.Hexes.{no_digit-is, digit-at}
+use Rattle.unicode_string.proofs.Numbers.{digits-stop, digits-none, digits-on, room, fits}
 use Rattle.unicode_string.proofs.parse_hex.Goals as goal
 
-pub returns-then-next-text : goal.returns-then-next-text
-returns-then-next-text c = record { value = digits-past _ _ _ _ c.if-next-text.true ∙ c.loop-left.invariant.2; within = c.loop-left.invariant.0 }
+pub returns-in_default : goal.returns-in_default
+returns-in_default c = digits-stop _ _ _ _ (no_digit-is _ (sym c.digit.ensures ∙ c.in_default.is)) ∙ c.loop-read.invariant.rest
 
-pub returns-then-d : goal.returns-then-d
-returns-then-d c = record { value = digits-stop _ _ _ _ (cc) ∙ c.loop-left.invariant.2; within = c.loop-left.invariant.0 }
-
-pub overflow_mul-code : goal.overflow_mul-code
-overflow_mul-code c =
-    let h : c.loop-left.code < 1048576 = fits _ _ (omega arith) c.loop-left.invariant.1 in
+pub overflow_add-digits : goal.overflow_add-digits
+overflow_add-digits c =
+    let w : c.loop-read.digits.next < length c.args.text.now = (digit-at c.args.text.now c.loop-read.digits.next c.in-Some.value (sym c.digit.ensures ∙ c.in-Some.is)).within in
     search rules
 
-pub overflow_add-code : goal.overflow_add-code
-overflow_add-code c =
-    let h : c.loop-left.code < 1048576 = fits _ _ (omega arith) c.loop-left.invariant.1 in
+pub overflow_mul-digits : goal.overflow_mul-digits
+overflow_mul-digits c = let h : c.loop-read.digits.code < 1048576 = fits _ _ (omega (arith, c.loop-read.invariant.left)) c.loop-read.invariant.room in search rules
+
+pub overflow_add-digits-in-loop-read : goal.overflow_add-digits-in-loop-read
+overflow_add-digits-in-loop-read c =
+    let h : c.loop-read.digits.code < 1048576 = fits _ _ (omega (arith, c.loop-read.invariant.left)) c.loop-read.invariant.room in
+    let w : c.in-Some.value < 16 = (digit-at c.args.text.now c.loop-read.digits.next c.in-Some.value (sym c.digit.ensures ∙ c.in-Some.is)).small in
     search rules
 
-pub loop-left-preserved : goal.loop-left-preserved
-loop-left-preserved c =
-    let is = c.hex_value-d.ensures in
-    let ne : (hex_of (get_or c.args.text.now c.loop-left.next 0) ≡ 255 → ⊥) = λ e. c.if-d.false (is ∙ e) in
-    (omega arith, room _ _ _ c.loop-left-test.true (rw is (hex-small _ ne)) c.loop-left.invariant.1, rw is (digits-on _ _ _ _ c.loop-left-test.true ne ∙ c.loop-left.invariant.2))
+pub loop-read-preserved : goal.loop-read-preserved
+loop-read-preserved c =
+    let i = c.loop-read.invariant in
+    let t = c.args.text.now in
+    let b = c.loop-read.digits in
+    let d = digit-at t b.next c.in-Some.value (sym c.digit.ensures ∙ c.in-Some.is) in
+    record {
+      left = omega (arith, i.left);
+      room = room b.left b.code c.in-Some.value (omega (arith, i.left)) d.small i.room;
+      rest = ap (λ (v : ℕ). digits_at t (b.left - 1) (b.next + 1) (b.code * 16 + v)) d.is ∙ digits-on t b.left b.next b.code (omega (arith, i.left)) d.some ∙ i.rest;
+    }
 
 pub returns : goal.returns
-returns c = record { value = digits-none _ _ _ _ (omega arith) ∙ c.loop-left.invariant.2; within = c.loop-left.invariant.0 }
+returns c = digits-none _ _ _ _ (omega (arith, c.loop-read.invariant.left)) ∙ c.loop-read.invariant.rest

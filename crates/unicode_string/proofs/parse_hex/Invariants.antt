@@ -1,9 +1,10 @@
-use Rattle.std.proofs.Common.{◌≡◌, ◌+◌, ◌*◌, ◌^◌, ◌≤◌, length}
+use Rattle.std.proofs.Common.{◌≡◌, ◌+◌, ◌*◌, ◌^◌, ◌≤◌}
 use Rattle.unicode_string.specs.Text.{digits_at}
 use Rattle.unicode_string.proofs.parse_hex.Given as goal
 
-abbrev pub invariant-loop-left : goal.invariant-loop-left
-invariant-loop-left l = (l.next ≤ length l.text) × ((l.code + 1) * 16 ^ l.left ≤ 16777216) × (digits_at l.text l.left l.next l.code ≡ digits_at l.text 6 l.from 0)
-
-abbrev pub decreases-loop-left : goal.decreases-loop-left
-decreases-loop-left l = l.left
+abbrev pub invariant-loop-read : goal.invariant-loop-read
+invariant-loop-read l = record {
+  left : l.digits.left + l.read ≡ 6;
+  room : (l.digits.code + 1) * 16 ^ l.digits.left ≤ 16777216;
+  rest : digits_at l.text l.digits.left l.digits.next l.digits.code ≡ digits_at l.text 6 l.from 0;
+}

@@ -1,7 +1,7 @@
 use Rattle.std.proofs.Common.{◌-◌, length}
 use Rattle.unicode_string.specs.View.{view, Roomy}
 use Rattle.unicode_string.proofs.Loops.{ToGo}
-use Rattle.unicode_string.proofs.Cursor.decode.Given as goal
+use Rattle.unicode_string.proofs.Source.decode.Given as goal
 
 abbrev pub invariant-loop-self : goal.invariant-loop-self
 invariant-loop-self l = Roomy (view l.self) × ToGo (view l.initial.self) (view l.self)
