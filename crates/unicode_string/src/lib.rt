@@ -128,7 +128,7 @@ fn parse_hex(text: &[u8], from: usize) -> Digits
             return digits;
         };
         digits = Digits {
-            left: digits.left - 1,
+            left: MOST_DIGITS - 1 - read,
             next: digits.next + 1,
             code: digits.code * 16 + value as u32,
         };

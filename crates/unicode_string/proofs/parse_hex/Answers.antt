@@ -1,4 +1,4 @@
-use Rattle.std.proofs.Common.{◌<◌, length, sym, ap, ◌+◌, ◌*◌, ◌-◌, ℕ, ◌∙◌, arith, rules}
+use Rattle.std.proofs.Common.{◌≡◌, ◌^◌, ◌≤◌, subst, ◌<◌, length, sym, ap, ◌+◌, ◌*◌, ◌-◌, ℕ, ◌∙◌, arith, rules}
 use Rattle.unicode_string.specs.Text.{digits_at}
 use Rattle.unicode_string.proofs.Hexes.{no_digit-is, digit-at}
 use Rattle.unicode_string.proofs.Numbers.{digits-stop, digits-none, digits-on, room, fits}
@@ -27,10 +27,11 @@ loop-read-preserved c =
     let t = c.args.text.now in
     let b = c.loop-read.digits in
     let d = digit-at t b.next c.in-Some.value (sym c.digit.ensures ∙ c.in-Some.is) in
+    let e : b.left - 1 ≡ 5 - c.loop-read.read = omega (arith, i.left) in
     record {
-      left = omega (arith, i.left);
-      room = room b.left b.code c.in-Some.value (omega (arith, i.left)) d.small i.room;
-      rest = ap (λ (v : ℕ). digits_at t (b.left - 1) (b.next + 1) (b.code * 16 + v)) d.is ∙ digits-on t b.left b.next b.code (omega (arith, i.left)) d.some ∙ i.rest;
+      left = omega (arith, i.left, c.loop-read-test.true);
+      room = subst (λ (l : ℕ). (b.code * 16 + c.in-Some.value + 1) * 16 ^ l ≤ 16777216) e (room b.left b.code c.in-Some.value (omega (arith, i.left)) d.small i.room);
+      rest = ap (λ (l : ℕ). digits_at t l (b.next + 1) (b.code * 16 + c.in-Some.value)) (sym e) ∙ ap (λ (v : ℕ). digits_at t (b.left - 1) (b.next + 1) (b.code * 16 + v)) d.is ∙ digits-on t b.left b.next b.code (omega (arith, i.left)) d.some ∙ i.rest;
     }
 
 pub returns : goal.returns
