@@ -3,6 +3,7 @@
 
 // Reports: what is wrong at which part of a filter's text.
 ghost use Rattle.std.specs.Prelude.{◌≡◌, [], ◌∷◌, ◌++◌, length, Some, codes, decimal, slice_index_or};
+ghost use Rattle.std.proofs.lemmas.List.Edits.{sets};
 ghost use Rattle.errors.specs.Kinds.{name_of, number_of, kinds};
 ghost use Rattle.errors.specs.Reports.{log, made};
 
@@ -106,6 +107,17 @@ pub struct Report {
     pub length: usize,
 }
 
+impl Report {
+    // Keeps the report as number n of the table, from 0, while the table has room.
+    pub fn keep(self, table: &mut [Report], n: usize)
+        ensures { table.new ≡ sets table.old n (self ∷ []) }
+    {
+        if n < table.len() {
+            table[n] = self;
+        }
+    }
+}
+
 // Shown as `Kind@start+length`.
 impl fmt::Display for Report {
     ghost output = { λ x. Some (name_of x.kind ++ (codes "@" ++ (decimal x.start ++ (codes "+" ++ decimal x.length)))) };
@@ -128,14 +140,13 @@ impl Reports<'_> {
     pub fn report(&mut self, kind: ReportKind, start: usize, length: usize)
         ensures { log self.new ≡ made (log self.old) (record { kind = kind; start = start; length = length } ∷ []) }
     {
+        let report = Report {
+            kind,
+            start,
+            length,
+        };
+        report.keep(self.table, self.count);
         self.first = self.first.or(Some(start));
-        if self.count < self.table.len() {
-            self.table[self.count] = Report {
-                kind,
-                start,
-                length,
-            };
-        }
         self.count = self.count.saturating_add(1);
     }
 }

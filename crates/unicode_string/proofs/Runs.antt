@@ -1,18 +1,18 @@
 -- How readings follow one another.
-use Rattle.std.proofs.Common.{◌≡◌, ℕ, suc, ◌+◌, ◌^◌, ◌<◌, min, List, [], ◌∷◌, ◌++◌, length, set, Some, None, Option, sym, refl, ap, ◌∙◌, subst, append-nil, add-zero, add_assoc, arith, length-append}
+use Rattle.std.proofs.Common.{◌≡◌, ℕ, suc, ◌+◌, List, [], ◌∷◌, ◌++◌, length, set, Some, None, Option, sym, refl, ap, ◌∙◌, subst, append-nil, add-zero, add_assoc, arith, length-append}
 use lib.Seq.{sets}
 use Rattle.errors.specs.declared.reports.Report.{Report}
-use Rattle.unicode_string.specs.Names.{Out, done, note, write, moved, follow, ◌⨾◌}
-use Rattle.errors.specs.Reports.{Log, made, most, first_start}
+use Rattle.unicode_string.specs.Names.{Out, done, write, moved, follow, ◌⨾◌}
+use Rattle.errors.specs.Reports.{first_start}
 use Rattle.unicode_string.specs.View.{St, grow, Ran, Filling, filled}
 
-sets-append : {X : Type 0} (l : List X) (i : ℕ) (a b : List X) → sets l i (a ++ b) ≡ sets (sets l i a) (i + length a) b
+pub sets-append : {X : Type 0} (l : List X) (i : ℕ) (a b : List X) → sets l i (a ++ b) ≡ sets (sets l i a) (i + length a) b
 sets-append l i [] b = rw add-zero refl
 sets-append l i (x ∷ a) b =
     let e : suc i + length a ≡ i + length (x ∷ a) = omega arith in
     sets-append (set l i x) (suc i) a b ∙ ap (λ (n : ℕ). sets (sets (set l i x) (suc i) a) n b) e
 
-first-append : (f : Option ℕ) (a b : List Report) → first_start f (a ++ b) ≡ first_start (first_start f a) b
+pub first-append : (f : Option ℕ) (a b : List Report) → first_start f (a ++ b) ≡ first_start (first_start f a) b
 first-append f [] b = refl
 first-append None (r ∷ a) [] = refl
 first-append None (r ∷ a) (x ∷ b) = refl
@@ -63,13 +63,6 @@ move_to s q = record { text = s.text; pos = q; count = s.count; first = s.first;
 pub ran-moved : (s : St) {q : ℕ} (o : Out) → q ≡ o.at → [] ≡ o.reports → Ran s (moved o) (move_to s q)
 ran-moved s {q} o is quiet = subst (λ (r : List Report). Ran s (record { at = o.at; reports = r; bytes = [] }) (move_to s q)) quiet (record { state = ap (move_to s) is ∙ simp add-zero })
 
--- a report was made
-pub ran-report : (s : St) (r : Report) {l : Log} → s.count + 1 < 2 ^ 64 → l ≡ made (record { table = s.table; count = s.count; first = s.first; lent = s.lent }) (r ∷ []) →
-    {q : ℕ} → Ran s (note r q) (record { text = s.text; pos = q; count = l.count; first = l.first; table = l.table; used = s.used; space = s.space; lent = l.lent; held = s.held })
-ran-report s r {l} h e {q} =
-    let n : min (s.count + 1) most ≡ s.count + 1 = omega arith in
-    record { state = rw (e, n) (simp add-zero) }
-
 -- bytes behind bytes
 pub filled-more : (f : Filling) (a b c : List ℕ) → c ≡ a ++ b → filled (filled f a) b ≡ filled f c
 filled-more f a b c is = rw is (simp (sets-append, length-append, add_assoc))
@@ -78,6 +71,3 @@ filled-more f a b c is = rw is (simp (sets-append, length-append, add_assoc))
 pub ran-filled : (s : St) {f : Filling} (b : List ℕ) → f ≡ filled (record { space = s.space; used = s.used; held = s.held }) b →
     Ran s (write b s.pos) (record { text = s.text; pos = s.pos; count = s.count; first = s.first; table = s.table; used = f.used; space = f.space; lent = s.lent; held = f.held })
 ran-filled s b e = record { state = rw e (simp add-zero) }
-
-pub space-is : {s e : St} {o : Out} → Ran s o e → e.space ≡ sets s.space s.used o.bytes
-space-is h = ap (λ (x : St). x.space) h.state

@@ -1,9 +1,10 @@
 -- Which part of a text spells which bytes as a name: rules over parts from i up to j, with no cursor.
-use Rattle.std.specs.Prelude.{◌≡◌, ℕ, ◌+◌, ◌-◌, ◌*◌, ◌<◌, ◌≤◌, true, ◌⊎◌, List, [], ◌++◌, length, Some, None, Option, IsUtf8, slice_index, slice_index_or, slice_range}
+use Rattle.std.specs.Prelude.{◌≡◌, ℕ, ◌+◌, ◌-◌, ◌*◌, ◌<◌, ◌≤◌, true, ◌⊎◌, List, [], ◌++◌, length, Some, None, IsUtf8, slice_index, slice_index_or, slice_range}
 use Rattle.std.proofs.Math.Utf8.{encode, scalar}
 use Rattle.std.specs.Str.{IsCharBoundary}
 use Rattle.unicode_string.specs.declared.Name.{Name}
 use Rattle.unicode_string.specs.Names.{bytes_in}
+use Rattle.unicode_string.specs.declared.NameRead.{NameRead}
 
 -- neither `,` nor `)` nor a backslash
 pub record Plain (b : ℕ) : Type 0 where
@@ -80,15 +81,15 @@ pub record Spells (t : List ℕ) (i j : ℕ) (b : List ℕ) : Type 0 where
   pub bytes : b ≡ head ++ tail
   pub end : Ends t j
 
--- what a call found at p, with c reports made before it: the name, if any, the place e after it, k reports in all, and s in the decoding space
-pub record Meant (t s : List ℕ) (p c : ℕ) (name : Option Name) (e k : ℕ) : Type 0 where
+-- what a call found at p, with c reports made before it and s in the decoding space after it
+pub record Meant (t s : List ℕ) (p c : ℕ) (r : NameRead) : Type 0 where
   -- a name that it found, the rules derive, with the bytes that stand in its place
-  pub sound : (n : Name) → name ≡ Some n → (b : List ℕ) × (bytes_in t s n ≡ Some b) × Spells t p e b
+  pub sound : (n : Name) → r.name ≡ Some n → (b : List ℕ) × (bytes_in t s n ≡ Some b) × Spells t p r.end b
   -- a name that the rules derive, it found, and reported nothing
-  pub whole : (j : ℕ) (b : List ℕ) → Spells t p j b → (n : Name) × (name ≡ Some n) × (e ≡ j) × (bytes_in t s n ≡ Some b) × (k ≡ c)
+  pub whole : (j : ℕ) (b : List ℕ) → Spells t p j b → (n : Name) × (r.name ≡ Some n) × (r.end ≡ j) × (bytes_in t s n ≡ Some b) × (r.count ≡ c)
   -- the rules derive at most one name
   pub one : (i j : ℕ) (a b : List ℕ) → Spells t p i a → Spells t p j b → (i ≡ j) × (a ≡ b)
   -- a name in a well-formed text is well formed, and so is what follows it
   pub text : (j : ℕ) (b : List ℕ) → IsUtf8 t → IsCharBoundary t p → Spells t p j b → IsUtf8 b × IsCharBoundary t j
   -- where it found no name, it reported why
-  pub told : name ≡ None → c < k
+  pub told : r.name ≡ None → c < r.count

@@ -1,12 +1,13 @@
 -- What reading a name gives: from a place, the place after, the reports made, the bytes decoded, and the name.
-use Rattle.std.specs.Prelude.{◌≡◌, ℕ, zero, suc, ◌+◌, ◌-◌, ◌^◌, min, Bool, true, cond, not, ◌&&◌, List, [], ◌∷◌, ◌++◌, length, take, drop, Some, None, Ok, Err, Option, Result, ◌==◌, nat_le, nat_lt, slice_index}
+use Rattle.std.specs.Prelude.{◌≡◌, ℕ, zero, suc, ◌+◌, ◌-◌, ◌^◌, min, Bool, true, cond, not, ◌&&◌, List, [], ◌∷◌, ◌++◌, length, take, drop, Some, None, Option, ◌==◌, nat_le, nat_lt, slice_index}
 use Rattle.std.proofs.Math.Utf8.{encode, scalar}
+pub use Rattle.errors.specs.Reports.{first_start}
 use Rattle.errors.specs.declared.reports.ReportKind.TheVariants.{InvalidEscapeCharacter, InvalidString}
 use Rattle.errors.specs.declared.reports.Report.{Report}
 use Rattle.glob.specs.declared.place.Place.{Place}
 use Rattle.glob.specs.Parts.{part_of}
 use Rattle.unicode_string.specs.declared.Name.{Name}
-use Rattle.unicode_string.specs.declared.NoRoom.{NoRoom}
+use Rattle.unicode_string.specs.declared.NameRead.{NameRead}
 use Rattle.unicode_string.specs.declared.Name.TheVariants.{InText, InSpace}
 use Rattle.unicode_string.specs.declared.StringFragment.{StringFragment}
 use Rattle.unicode_string.specs.declared.StringFragment.TheVariants.{Literal, EscapedChar}
@@ -117,5 +118,8 @@ abbrev pub out_at : List ℕ → ℕ → ℕ → ℕ → Out
 out_at t p c u = cond (has_room t p c u) (name_at t p u).out (done p)
 
 -- what the call that reads a name answers
-abbrev pub named_at : List ℕ → ℕ → ℕ → ℕ → Result (Option Name) NoRoom
-named_at t p c u = cond (has_room t p c u) (Ok (name_at t p u).name) (Err (record {}))
+abbrev pub read_at : List ℕ → ℕ → ℕ → ℕ → Option NameRead
+read_at t p c u =
+    cond (has_room t p c u)
+    (Some (record { name = (name_at t p u).name; end = (name_at t p u).out.at; count = c + length (name_at t p u).out.reports; used = u + length (name_at t p u).out.bytes; first = first_start None (name_at t p u).out.reports }))
+    None

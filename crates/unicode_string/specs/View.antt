@@ -19,7 +19,7 @@ pub record St : Type 0 where
   pub held : ℕ
 
 abbrev pub view : Source → St
-view c = record { text = c.text.now; pos = c.pos; count = c.reports.count; first = c.reports.first; table = c.reports.table.now; used = c.decoded.used; space = c.decoded.space.now; lent = c.reports.table.ghost_name; held = c.decoded.space.ghost_name }
+view c = record { text = c.text.now; pos = c.pos; count = c.count; first = c.first; table = c.table.now; used = c.decoded.used; space = c.decoded.space.now; lent = c.table.ghost_name; held = c.decoded.space.ghost_name }
 
 abbrev pub grow : St → Out → St
 grow s o = record { text = s.text; pos = o.at; count = s.count + length o.reports; first = first_start s.first o.reports; table = sets s.table s.count o.reports; used = s.used + length o.bytes; space = sets s.space s.used o.bytes; lent = s.lent; held = s.held }

@@ -7,9 +7,9 @@ ghost use Rattle.std.proofs.Math.Utf8.{encode, scalar};
 
 // The space that names with an escape are decoded into, and how much of it is used.
 #[derive(Drop)]
-pub struct Decoded<'a> {
-    pub space: &'a mut [u8; 1024],
-    pub used: usize,
+pub(crate) struct Decoded<'a> {
+    pub(crate) space: &'a mut [u8; 1024],
+    pub(crate) used: usize,
     ghost whole: { length space.now ≡ 1024 },
 }
 

@@ -4,22 +4,23 @@
 #![tactic(auto)]
 
 // Names of a filter: runs of text and escapes.
-ghost use Rattle.std.specs.Prelude.{◌≡◌, ℕ, ◌+◌, ◌-◌, ◌*◌, ◌^◌, ◌<◌, ◌≤◌, Bool, true, false, cond, length, IfOk, IfSome, slice_index};
+ghost use Rattle.std.specs.Prelude.{◌≡◌, ℕ, ◌+◌, ◌-◌, ◌*◌, ◌^◌, ◌<◌, ◌≤◌, Bool, true, false, cond, length, IfSome, slice_index};
+ghost use Rattle.std.proofs.lemmas.List.Edits.{sets};
 ghost use Rattle.std.proofs.Math.Utf8.{encode, scalar};
 ghost use Rattle.std.specs.Option.{option_map};
 ghost use Rattle.std.specs.List.{prefix_len};
 ghost use Rattle.glob.specs.Parts.{part_of};
-ghost use Rattle.unicode_string.specs.Names.{frag_at, frags_at, name_at, moved, bytes_of, Scalar, more, bytes_in, place_of, out_at, has_room, named_at};
+ghost use Rattle.unicode_string.specs.Names.{frag_at, frags_at, name_at, moved, bytes_of, Scalar, more, bytes_in, place_of, out_at, has_room, read_at, note};
 ghost use Rattle.unicode_string.specs.Grammar.{Meant};
 ghost use Rattle.unicode_string.specs.View.{view, Ran, Roomy};
 ghost use Rattle.unicode_string.specs.Text.{is_plain, run_end, is_at, letter_of, digit_of, digits_at, unicode_at, escape_at};
 
 use decoded::Decoded;
-use errors::reports::{ReportKind, Reports};
+use errors::reports::{Report, ReportKind};
 use glob::place::Place;
 use tables::hex_value;
 
-pub mod decoded;
+mod decoded;
 pub mod tables;
 
 // A name is a part of the text itself or, with an escape in it, of the decoding space.
@@ -43,18 +44,28 @@ pub struct Texts<'a> {
     pub space: &'a [u8; 1024],
 }
 
-// A text that is read: the place to go on at, the reports made on it, and what was decoded from it.
-#[derive(Drop)]
-pub struct Source<'a> {
-    pub text: &'a [u8],
-    pub pos: usize,
-    pub reports: Reports<'a>,
-    pub decoded: Decoded<'a>,
+// What reading a name comes to: the name, unless it was reported as faulty; the place after it; how many reports there are
+// now; how far the decoding space is used; and where its first report starts.
+#[derive(Clone, Copy)]
+pub struct NameRead {
+    pub name: Option<Name>,
+    pub end: usize,
+    pub count: usize,
+    pub used: usize,
+    pub first: Option<usize>,
 }
 
-// There may be no room for the bytes or the reports that a name can make.
-#[derive(Clone, Copy, PartialEq, Eq, Debug)]
-pub struct NoRoom;
+// A text that is read: the place to go on at, the reports made on it, and what was decoded from it.
+// The lent table lies in it directly: within a struct of its own the check loses what the table holds at the end.
+#[derive(Drop)]
+struct Source<'t, 'r, 'd> {
+    text: &'t [u8],
+    pos: usize,
+    table: &'r mut [Report],
+    count: usize,
+    first: Option<usize>,
+    decoded: Decoded<'d>,
+}
 
 // A run of text, or one decoded character as its code point.
 #[derive(Clone, Copy)]
@@ -189,7 +200,21 @@ fn literal_end(text: &[u8], from: usize) -> usize
     from + run_length(&text[from..])
 }
 
-impl<'a> Source<'a> {
+impl<'t> Source<'t, '_, '_> {
+    fn report(&mut self, kind: ReportKind, start: usize, length: usize)
+        requires { self.old.count + 1 < 2 ^ 64 }
+        ensures { Ran (view self.old) (note (record { kind = kind; start = start; length = length }) self.old.pos) (view self.new) }
+    {
+        let report = Report {
+            kind,
+            start,
+            length,
+        };
+        report.keep(self.table, self.count);
+        self.first = self.first.or(Some(start));
+        self.count += 1;
+    }
+
     // Whether a name goes on here.
     fn more(&self) -> bool
         ensures { result ≡ more self.now.text.now self.now.pos }
@@ -201,9 +226,9 @@ impl<'a> Source<'a> {
     }
 
     // The fragment that begins here. An invalid escape is reported.
-    fn parse_fragment(&mut self) -> Option<StringFragment<'a>>
+    fn parse_fragment(&mut self) -> Option<StringFragment<'t>>
         requires here { more self.old.text.now self.old.pos ≡ true }
-        requires few { self.old.reports.count + 1 < 2 ^ 64 }
+        requires few { self.old.count + 1 < 2 ^ 64 }
         ensures ran { Ran (view self.old) (moved (frag_at self.old.text.now self.old.pos)) (view self.new) }
         ensures value { bytes_of result ≡ (frag_at self.old.text.now self.old.pos).bytes }
         ensures good { Scalar result }
@@ -222,8 +247,7 @@ impl<'a> Source<'a> {
             None => {
                 self.pos = start + 1;
                 let length = (self.text.len() - start).min(2);
-                self.reports
-                    .report(ReportKind::InvalidEscapeCharacter, start, length);
+                self.report(ReportKind::InvalidEscapeCharacter, start, length);
                 None
             }
         }
@@ -261,9 +285,9 @@ impl<'a> Source<'a> {
         let end = literal_end(self.text, start);
         if is_at(self.text, end, b'\\') {
             let from = self.decoded.used;
-            let before = self.reports.count;
+            let before = self.count;
             self.decode();
-            if self.reports.count > before {
+            if self.count > before {
                 return None;
             }
             return Some(Name::InSpace(Place {
@@ -273,7 +297,7 @@ impl<'a> Source<'a> {
         }
         self.pos = end;
         if end == start {
-            self.reports.report(ReportKind::InvalidString, end, 0);
+            self.report(ReportKind::InvalidString, end, 0);
             return None;
         }
         Some(Name::InText(Place {
@@ -281,31 +305,53 @@ impl<'a> Source<'a> {
             length: end - start,
         }))
     }
+}
 
-    // Whether there is room for what the bytes that are left can make, in the decoding space and in the count.
-    fn has_room(&self) -> bool
-        ensures { result ≡ has_room self.now.text.now self.now.pos self.now.reports.count self.now.decoded.used }
-    {
-        let size = self.decoded.space.len();
-        if self.pos > self.text.len() {
-            return false;
-        }
-        let left = self.text.len() - self.pos;
-        left <= size && self.decoded.used <= size - left && self.reports.count < usize::MAX - left
+// Whether there is room for what the bytes from `at` on can make, in the decoding space and in the count.
+fn has_room(text: &[u8], at: usize, count: usize, used: usize) -> bool
+    ensures { result ≡ has_room text.now at count used }
+{
+    if at > text.len() {
+        return false;
     }
+    let left = text.len() - at;
+    left <= 1024 && used <= 1024 - left && count < usize::MAX - left
+}
 
-    // Reads the name that begins here, up to the next `,` or `)` that no backslash escapes; none if it is faulty, which is reported.
-    // The decoded bytes of a name with an escape follow those before. Without room for what it can make nothing is read.
-    pub fn parse_string(&mut self) -> Result<Option<Name>, NoRoom>
-        ensures read { result ≡ named_at self.old.text.now self.old.pos self.old.reports.count self.old.decoded.used }
-        ensures ran { Ran (view self.old) (out_at self.old.text.now self.old.pos self.old.reports.count self.old.decoded.used) (view self.new) }
-        ensures meant { IfOk result (λ n. Meant self.old.text.now (view self.new).space self.old.pos self.old.reports.count n self.new.pos self.new.reports.count) }
-    {
-        if !self.has_room() {
-            return Err(NoRoom);
-        }
-        Ok(self.parse_name())
+// Reads the name at `at`, up to the next `,` or `)` that no backslash escapes. The first reports stand in the table from `count` on,
+// the decoded bytes of a name with an escape in the space from `used` on. Without room for them nothing is read.
+pub fn parse_string(
+    text: &[u8],
+    at: usize,
+    reports: &mut [Report],
+    count: usize,
+    space: &mut [u8; 1024],
+    used: usize,
+) -> Option<NameRead>
+    ensures read { result ≡ read_at text.now at count used }
+    ensures reports { reports.new ≡ sets reports.old count (out_at text.now at count used).reports }
+    ensures space { space.new ≡ sets space.old used (out_at text.now at count used).bytes }
+    ensures meant { IfSome result (λ x. Meant text.now space.new at count x) }
+{
+    if !has_room(text, at, count, used) {
+        return None;
     }
+    let mut source = Source {
+        text,
+        pos: at,
+        count,
+        first: None,
+        table: reports,
+        decoded: Decoded { space, used },
+    };
+    let name = source.parse_name();
+    Some(NameRead {
+        name,
+        end: source.pos,
+        count: source.count,
+        used: source.decoded.used,
+        first: source.first,
+    })
 }
 
 fn part_of(text: &[u8], place: Place) -> Option<NamePart<'_>>

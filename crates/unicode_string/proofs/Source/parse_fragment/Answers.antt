@@ -1,8 +1,8 @@
 use Rattle.std.proofs.Common.{ℕ, ◌+◌, ◌-◌, take, drop, sym, ap, ◌∙◌, subst}
 use Rattle.errors.specs.declared.reports.ReportKind.TheVariants.{InvalidEscapeCharacter}
 use Rattle.unicode_string.specs.Names.{Out, note, moved, frag_at}
-use Rattle.unicode_string.specs.View.{St, view, Ran}
-use Rattle.unicode_string.proofs.Runs.{ran-moved, ran-report}
+use Rattle.unicode_string.specs.View.{view, Ran}
+use Rattle.unicode_string.proofs.Runs.{ran-moved}
 use Rattle.unicode_string.proofs.Frags.{frag-plain, frag-escape, escape-sized}
 use Rattle.unicode_string.proofs.Source.parse_fragment.Goals as goal
 
@@ -36,10 +36,8 @@ returns-in-None c =
     let p = c.args.self.now.pos in
     let s = view c.args.self.now in
     let e = frag-escape t p (sym c.if-plain.ensures) (sym c.in-None.is ∙ c.parse_escaped_char.ensures) in
-    let w : St = view (record { text = c.args.self.now.text; pos = p + 1; reports = c.report.new.self; decoded = c.args.self.now.decoded }) in
-    let r = ran-report s (record { kind = InvalidEscapeCharacter; start = p; length = c.min-length.result }) c.requires.few c.report.ensures {q = p + 1} in
     record {
-      ran = subst (λ (o : Out). Ran s (moved o) w) e (subst (λ (n : ℕ). Ran s (note (record { kind = InvalidEscapeCharacter; start = p; length = n }) (p + 1)) w) c.min-length.ensures r);
+      ran = subst (λ (o : Out). Ran s (moved o) (view c.report.new.self)) e (subst (λ (n : ℕ). Ran s (note (record { kind = InvalidEscapeCharacter; start = p; length = n }) (p + 1)) (view c.report.new.self)) c.min-length.ensures (record { state = c.report.ensures.state }));
       value = ap (λ (o : Out). o.bytes) e;
       good = tt;
     }

@@ -1,8 +1,7 @@
 use Rattle.std.proofs.Common.{◌≡◌, ℕ, length, get_or, sym, ap, ◌∙◌, subst, add-zero, arith}
-use Rattle.errors.specs.declared.reports.ReportKind.TheVariants.{InvalidString}
 use Rattle.unicode_string.specs.Names.{Named, whole, frags_at}
-use Rattle.unicode_string.specs.View.{St, view, Ran}
-use Rattle.unicode_string.proofs.Runs.{move_to, ran-report, count-is, used-is}
+use Rattle.unicode_string.specs.View.{view, Ran}
+use Rattle.unicode_string.proofs.Runs.{move_to, count-is, used-is}
 use Rattle.unicode_string.proofs.Escapes.{at-is, not_at}
 use Rattle.unicode_string.proofs.Naming.{name-escape, name-plain, whole-none, whole-some, found_none, found_some}
 use Rattle.unicode_string.proofs.Source.parse_name.Goals as goal
@@ -36,9 +35,8 @@ returns-then-end-start c =
     let v = c.literal_end-end.ensures.value in
     let plain = not_at s.text q 92 (sym c.if-is_at.ensures) (omega arith) in
     let is = whole-none s.pos q c.if-end-start.true ∙ ap (whole s.pos) v ∙ name-plain s.text s.pos s.used (subst (λ (n : ℕ). get_or s.text n 0 ≡ 92 → ⊥) v plain) in
-    let w : St = view (record { text = c.args.self.now.text; pos = q; reports = c.report.new.self; decoded = c.args.self.now.decoded }) in
     record {
-      ran = subst (λ (n : Named). Ran s n.out w) is (ran-report s (record { kind = InvalidString; start = q; length = 0 }) (omega (arith, c.requires.few)) c.report.ensures {q = q});
+      ran = subst (λ (n : Named). Ran s n.out (view c.report.new.self)) is (record { state = c.report.ensures.state });
       found = ap (λ (n : Named). n.name) is;
     }
 
