@@ -191,7 +191,10 @@ pub fn is_match(pattern: &[u8], name: &[u8]) -> bool
             }
             Move::Taken(rest) => now = rest,
             Move::Stuck => {
-                let Some(Rest { pattern, name: [_, name @ ..] }) = retry else {
+                let Some(Rest { pattern, name }) = retry else {
+                    return false;
+                };
+                let [_, name @ ..] = name else {
                     return false;
                 };
                 now = Rest { pattern, name };
