@@ -17,7 +17,7 @@ pub trait Matcher {
 }
 
 // The plain glob.
-#[derive(Clone, Copy)]
+#[derive(Clone, Copy, Debug, PartialEq, Eq)]
 pub struct PlainGlob;
 
 impl Matcher for PlainGlob {
@@ -32,7 +32,7 @@ impl Matcher for PlainGlob {
 }
 
 // What a pattern and a name, each a place in the text, were answered.
-#[derive(Clone, Copy)]
+#[derive(Clone, Copy, Debug, PartialEq, Eq)]
 pub struct Answer {
     pub pattern: Place,
     pub name: Place,
@@ -41,7 +41,7 @@ pub struct Answer {
 
 // Recorded answers over one lent text. The first row that fits a pair decides; a pair that no row fits is no, and a row with
 // a place outside the text fits nothing.
-#[derive(Clone, Copy)]
+#[derive(Clone, Copy, Debug, PartialEq, Eq)]
 pub struct RecordedAnswers<'a> {
     pub text: &'a [u8],
     pub rows: &'a [Answer],
@@ -58,11 +58,9 @@ impl Matcher for RecordedAnswers<'_> {
     ghost matches = { λ s. recorded s.text.now s.rows.now };
 
     fn is_match(&self, pattern: &[u8], name: &[u8]) -> bool {
-        for row in self.rows {
-            if row_fits(self.text, *row, pattern, name) {
-                return row.answer;
-            }
-        }
-        false
+        self.rows
+            .iter()
+            .find(|row| row_fits(self.text, **row, pattern, name))
+            .is_some_and(|row| row.answer)
     }
 }
