@@ -42,14 +42,25 @@ fn first_member(bytes: &[u8]) -> Option<(Bounds, &[u8])>
     ensures { option_map (λ x. (range_for x.0, x.1.now)) result ≡ split bytes.now (member_of bytes.now) }
 {
     match bytes {
-        [first, b'-', last, rest @ ..]
-            if is_member(*first) && is_member(*last) && first <= last =>
-        {
-            Some((Bounds { first: *first, last: *last }, rest))
-        }
+        [first, b'-', last, rest @ ..] if is_member(*first) && is_member(*last) && first <= last =>
+            {
+                Some((
+                    Bounds {
+                        first: *first,
+                        last: *last,
+                    },
+                    rest,
+                ))
+            }
         [_, b'-', ..] => None,
         [b, rest @ ..] if is_member(*b) => {
-            Some((Bounds { first: *b, last: *b }, rest))
+            Some((
+                Bounds {
+                    first: *b,
+                    last: *b,
+                },
+                rest,
+            ))
         }
         _ => None,
     }
@@ -63,6 +74,7 @@ impl Iterator for Members<'_> {
     type Item = Bounds;
 
     ghost next_gives = { YieldsFirstBy range_for (λ s. ranges_of s.0.now) };
+
     ghost remaining = { item_count (λ s. ranges_of s.0.now) };
 
     fn next(&mut self) -> Option<Bounds> {
@@ -84,16 +96,17 @@ impl Bounds {
 fn listed(negated: bool, members: &[u8]) -> Option<(Token<'_>, &[u8])>
     ensures { option_map (λ x. (item_for x.0, x.1.now)) result ≡ split members.now (members_of negated 0 members.now) }
 {
-    let (_, mut rest) = first_member(members)?;
-    while let Some((_, after)) = first_member(rest) {
-        rest = after;
+    let (_, mut end) = first_member(members)?;
+    while let Some((_, after)) = first_member(end) {
+        end = after;
     }
-    let after = rest.strip_prefix(b"]")?;
+    let rest = end.strip_prefix(b"]")?;
     let members = Members(members);
-    Some((Token::Listed { negated, members }, after))
+    Some((Token::Listed { negated, members }, rest))
 }
 
 // The item at the start of the pattern, and what follows it.
+#[tactic(auto, using(crate::proofs::Splits::item_unlisted, crate::proofs::Splits::item_listed))]
 fn first_token(pattern: &[u8]) -> Option<(Token<'_>, &[u8])>
     ensures { option_map (λ x. (item_for x.0, x.1.now)) result ≡ split pattern.now (item_of pattern.now) }
 {
@@ -166,10 +179,16 @@ impl<'a> Rest<'a> {
             };
         };
         if let Token::AnyRun = token {
-            return Move::Star(Rest { pattern: rest, name });
+            return Move::Star(Rest {
+                pattern: rest,
+                name,
+            });
         }
         match name {
-            [b, left @ ..] if token.takes(*b) => Move::Taken(Rest { pattern: rest, name: left }),
+            [b, left @ ..] if token.takes(*b) => Move::Taken(Rest {
+                pattern: rest,
+                name: left,
+            }),
             _ => Move::Stuck,
         }
     }

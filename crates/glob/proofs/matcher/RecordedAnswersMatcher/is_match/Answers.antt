@@ -29,5 +29,5 @@ returns c =
     let s = c.args.self.now in let p = c.args.pattern.now in let n = c.args.name.now in
     let test = λ (row : Answer). fits s.text.now row p n in
     let e : option_map (λ x. x.now) c.find.result ≡ find test s.rows.now =
-        find_from_yields_List test c.find.new.self _ c.find.result c.find.ensures.ran (YieldsList-from_slice s.rows.now (search rules)) (λ x b q k. search (rules, tests)) in
+    find_from_yields_List test c.find.new.self _ c.find.result c.find.ensures.ran (YieldsList-from_slice s.rows.now (search rules)) (λ x b q k. search (rules, tests)) in
     read c.find.result c.is_some_and.result (search rules) ∙ ap answer_of e ∙ recorded-find s.text.now p n s.rows.now
