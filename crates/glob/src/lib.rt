@@ -41,27 +41,14 @@ fn is_member(b: u8) -> bool
 fn first_member(bytes: &[u8]) -> Option<(Bounds, &[u8])>
     ensures { option_map (λ x. (range_for x.0, x.1.now)) result ≡ split bytes.now (member_of bytes.now) }
 {
-    match bytes {
-        [first, b'-', last, rest @ ..] if is_member(*first) && is_member(*last) && first <= last =>
-            {
-                Some((
-                    Bounds {
-                        first: *first,
-                        last: *last,
-                    },
-                    rest,
-                ))
-            }
+    match *bytes {
+        [first, b'-', last, ref rest @ ..]
+            if is_member(first) && is_member(last) && first <= last => Some((
+            Bounds { first, last },
+            rest,
+        )),
         [_, b'-', ..] => None,
-        [b, rest @ ..] if is_member(*b) => {
-            Some((
-                Bounds {
-                    first: *b,
-                    last: *b,
-                },
-                rest,
-            ))
-        }
+        [b, ref rest @ ..] if is_member(b) => Some((Bounds { first: b, last: b }, rest)),
         _ => None,
     }
 }
@@ -88,7 +75,7 @@ impl Bounds {
     fn has(self, b: u8) -> bool
         ensures { result ≡ range_has b (range_for self) }
     {
-        self.first <= b && b <= self.last
+        (self.first..=self.last).contains(&b)
     }
 }
 
