@@ -39,6 +39,15 @@ pub struct Answer {
     pub answer: bool,
 }
 
+impl Answer {
+    // Whether the row records this pair, over this text.
+    fn records(&self, text: &[u8], pattern: &[u8], name: &[u8]) -> bool
+        ensures { result ≡ fits text.now self.now pattern.now name.now }
+    {
+        self.pattern.holds(text, pattern) && self.name.holds(text, name)
+    }
+}
+
 // Recorded answers over one lent text. The first row that fits a pair decides; a pair that no row fits is no, and a row with
 // a place outside the text fits nothing.
 #[derive(Clone, Copy, Debug, PartialEq, Eq)]
@@ -47,20 +56,13 @@ pub struct RecordedAnswers<'a> {
     pub rows: &'a [Answer],
 }
 
-// Whether the row records this pair.
-fn row_fits(text: &[u8], row: Answer, pattern: &[u8], name: &[u8]) -> bool
-    ensures { result ≡ fits text.now row pattern.now name.now }
-{
-    row.pattern.holds(text, pattern) && row.name.holds(text, name)
-}
-
 impl Matcher for RecordedAnswers<'_> {
     ghost matches = { λ s. recorded s.text.now s.rows.now };
 
     fn is_match(&self, pattern: &[u8], name: &[u8]) -> bool {
         self.rows
             .iter()
-            .find(|row| row_fits(self.text, **row, pattern, name))
+            .find(|row| row.records(self.text, pattern, name))
             .is_some_and(|row| row.answer)
     }
 }

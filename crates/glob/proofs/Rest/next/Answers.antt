@@ -27,7 +27,7 @@ returns-in-len1-up c =
     let e = c.in-Some.ensures in
     let n = c.args.self.name.now in
     let i = item_for c.in-Some.token in
-    let m = matches-some _ i c.in-Some.rest.now e in
+    let m = matches-some c.args.self.pattern.now i c.in-Some.rest.now e in
     let other = no-star c.in-Some.token c.in_default-token.not-AnyRun in
     rw (take_rest n 1) (
       item-shorter _ _ _ e,
@@ -40,7 +40,7 @@ pub returns-in_default-name : goal.returns-in_default-name
 returns-in_default-name c =
     let n = c.args.self.name.now in
     let i = item_for c.in-Some.token in
-    let m = matches-some _ i c.in-Some.rest.now c.in-Some.ensures in
+    let m = matches-some c.args.self.pattern.now i c.in-Some.rest.now c.in-Some.ensures in
     let other = no-star c.in-Some.token c.in_default-token.not-AnyRun in
     elim c.in_default-name.branch [
       | in_default-name-via-then-name-lt1 w ↦ stuck-end _ _ i other m n (omega (arith, ltb-true))
