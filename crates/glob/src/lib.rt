@@ -4,11 +4,11 @@
 #![tactic(auto)]
 
 // Plain globs over bytes: `*` takes any run, `?` one byte, `[..]` one listed byte, `[!..]` one unlisted byte, `\` makes the next byte plain.
-ghost use Rattle.std.specs.Prelude.{◌≡◌, ℕ, ◌+◌, ◌-◌, ◌^◌, ◌<◌, ◌≤◌, Bool, true, false, List, length, drop, is_some, Decides};
+ghost use Rattle.std.specs.Prelude.{◌≡◌, List, is_some, Decides};
 ghost use Rattle.std.specs.Option.{option_map};
 ghost use Rattle.std.specs.Iterator.{YieldsFirstBy, item_count};
-ghost use Rattle.glob.specs.Glob.{Item, Pattern, is_member, within, takes as takes_byte, WellFormed, Matches};
-ghost use Rattle.glob.specs.Reading.{span_of, ranges_of, member_of, members_of, item_of, items_of, matches};
+ghost use Rattle.glob.specs.Glob.{Item, Pattern, is_member, takes as takes_byte, WellFormed, Matches};
+ghost use Rattle.glob.specs.Reading.{ranges_of, member_of, members_of, item_of, items_of, matches};
 ghost use Rattle.glob.specs.Tokens.{range_for, range_has, item_for, split, Moves};
 
 pub mod matcher;
@@ -72,6 +72,7 @@ impl Iterator for Members<'_> {
 }
 
 impl Bounds {
+    // Whether the byte is one of the member's.
     fn has(self, b: u8) -> bool
         ensures { result ≡ range_has b (range_for self) }
     {
@@ -154,6 +155,7 @@ enum Move<'a> {
 }
 
 impl<'a> Rest<'a> {
+    // The first step of the matching.
     fn next(self) -> Move<'a>
         ensures { Moves self.entry result }
     {
