@@ -4,162 +4,108 @@
 #![tactic(auto)]
 
 // Plain globs over bytes: `*` takes any run, `?` one byte, `[..]` one listed byte, `[!..]` one unlisted byte, `\` makes the next byte plain.
-ghost use Rattle.std.specs.Prelude.{◌≡◌, ℕ, ◌+◌, ◌-◌, ◌^◌, ◌<◌, ◌≤◌, Bool, true, false, List, length, drop, is_some, Decides};
-ghost use Rattle.glob.specs.Glob.{Item, Pattern, is_member, within, takes as takes_byte, WellFormed, Matches};
-ghost use Rattle.glob.specs.Reading.{span_of, ranges_of, items_of, matches};
-ghost use Rattle.glob.specs.Tokens.{item_for, step_for, member_for, member_at, item_at, list_at, MemberFits, StepFits, Moves};
+ghost use Rattle.std.specs.Prelude.{◌≡◌, List, is_some, Decides};
+ghost use Rattle.std.specs.Option.{option_map};
+ghost use Rattle.std.specs.Iterator.{YieldsFirstBy, item_count};
+ghost use Rattle.glob.specs.Glob.{Item, Pattern, is_member, takes as takes_byte, WellFormed, Matches};
+ghost use Rattle.glob.specs.Reading.{ranges_of, member_of, members_of, item_of, items_of, matches};
+ghost use Rattle.glob.specs.Tokens.{range_for, range_has, item_for, split, Moves};
 
 pub mod matcher;
 pub mod place;
 
-// A member of a list: the bytes from `first` up to `last`, written with `len` bytes.
+// A member of a list: the bytes from `first` up to `last`.
 #[derive(Clone, Copy)]
 struct Bounds {
     first: u8,
     last: u8,
-    len: usize,
 }
 
-// An item as it stands in a pattern; a list is known by the place of its first member.
+// An item of a pattern; a list keeps the bytes that its members stand at the start of.
 #[derive(Clone, Copy)]
-enum Token {
+enum Token<'a> {
     AnyRun,
     One,
     Byte(u8),
-    Listed { negated: bool, from: usize },
+    Listed { negated: bool, members: Members<'a> },
 }
 
-// A token and the number of bytes that it is written with.
-#[derive(Clone, Copy)]
-struct Step {
-    token: Token,
-    len: usize,
-}
-
+#[tactic(auto, unfolding(crate::specs::Glob::is_member))]
 fn is_member(b: u8) -> bool
     ensures { result ≡ is_member b }
 {
-    b'a' <= b && b <= b'z'
-        || b'A' <= b && b <= b'Z'
-        || b'0' <= b && b <= b'9'
-        || b == b'_'
-        || b == b'.'
-        || b == b':'
+    b.is_ascii_alphanumeric() || matches!(b, b'_' | b'.' | b':')
 }
 
-// The member of a list that begins at `at`.
-fn member_at(pattern: &[u8], at: usize) -> Option<Bounds>
-    ensures value { member_for result ≡ member_at pattern.now at }
-    ensures fits { MemberFits (length pattern.now) at result }
+// The member at the start of the bytes, and what follows it.
+fn first_member(bytes: &[u8]) -> Option<(Bounds, &[u8])>
+    ensures { option_map (λ x. (range_for x.0, x.1.now)) result ≡ split bytes.now (member_of bytes.now) }
 {
-    if at >= pattern.len() || !is_member(pattern[at]) {
-        return None;
+    match *bytes {
+        [first, b'-', last, ref rest @ ..]
+            if is_member(first) && is_member(last) && first <= last => Some((
+            Bounds { first, last },
+            rest,
+        )),
+        [_, b'-', ..] => None,
+        [b, ref rest @ ..] if is_member(b) => Some((Bounds { first: b, last: b }, rest)),
+        _ => None,
     }
-    let first = pattern[at];
-    if at + 1 >= pattern.len() || pattern[at + 1] != b'-' {
-        return Some(Bounds {
-            first,
-            last: first,
-            len: 1,
-        });
-    }
-    if at + 2 >= pattern.len() {
-        return None;
-    }
-    let last = pattern[at + 2];
-    if is_member(last) && first <= last {
-        return Some(Bounds {
-            first,
-            last,
-            len: 3,
-        });
-    }
-    None
 }
 
-// How many bytes the members from `from` on have.
-fn span(pattern: &[u8], from: usize) -> usize
-    requires { from ≤ length pattern.now }
-    ensures value { result ≡ span_of (drop from pattern.now) }
-    ensures fits { from + result ≤ length pattern.now }
-{
-    let mut len = 0;
-    while let Some(m) = member_at(pattern, from + len) {
-        len += m.len;
+// The members at the start of some bytes.
+#[derive(Clone, Copy)]
+struct Members<'a>(&'a [u8]);
+
+impl Iterator for Members<'_> {
+    type Item = Bounds;
+
+    ghost next_gives = { YieldsFirstBy range_for (λ s. ranges_of s.0.now) };
+
+    ghost remaining = { item_count (λ s. ranges_of s.0.now) };
+
+    fn next(&mut self) -> Option<Bounds> {
+        let (m, rest) = first_member(self.0)?;
+        self.0 = rest;
+        Some(m)
     }
-    len
 }
 
-// Whether a member from `from` on has the byte.
-fn lists(pattern: &[u8], from: usize, b: u8) -> bool
-    ensures { result ≡ within b (ranges_of (drop from pattern.now)) }
-{
-    let mut at = from;
-    while let Some(m) = member_at(pattern, at) {
-        if m.first <= b && b <= m.last {
-            return true;
-        }
-        at += m.len;
+impl Bounds {
+    // Whether the byte is one of the member's.
+    fn has(self, b: u8) -> bool
+        ensures { result ≡ range_has b (range_for self) }
+    {
+        (self.first..=self.last).contains(&b)
     }
-    false
 }
 
-// The list at `at`, whose members follow after `before` bytes.
-fn list_at(pattern: &[u8], at: usize, before: usize, negated: bool) -> Option<Step>
-    requires { (0 < before) × (at + before ≤ length pattern.now) }
-    ensures value { step_for pattern.now result ≡ list_at pattern.now at before negated }
-    ensures fits { StepFits (length pattern.now) at result }
+// The list whose members the bytes begin with, and what follows its `]`.
+fn listed(negated: bool, members: &[u8]) -> Option<(Token<'_>, &[u8])>
+    ensures { option_map (λ x. (item_for x.0, x.1.now)) result ≡ split members.now (members_of negated 0 members.now) }
 {
-    let from = at + before;
-    let len = span(pattern, from);
-    let end = from + len;
-    if len > 0 && end < pattern.len() && pattern[end] == b']' {
-        return Some(Step {
-            token: Token::Listed { negated, from },
-            len: before + len + 1,
-        });
+    let (_, mut end) = first_member(members)?;
+    while let Some((_, after)) = first_member(end) {
+        end = after;
     }
-    None
+    let rest = end.strip_prefix(b"]")?;
+    let members = Members(members);
+    Some((Token::Listed { negated, members }, rest))
 }
 
-// The item that begins at `at`.
-fn token_at(pattern: &[u8], at: usize) -> Option<Step>
-    ensures value { step_for pattern.now result ≡ item_at pattern.now at }
-    ensures fits { StepFits (length pattern.now) at result }
+// The item at the start of the pattern, and what follows it.
+#[tactic(auto, using(crate::proofs::Splits::item_unlisted, crate::proofs::Splits::item_listed))]
+fn first_token(pattern: &[u8]) -> Option<(Token<'_>, &[u8])>
+    ensures { option_map (λ x. (item_for x.0, x.1.now)) result ≡ split pattern.now (item_of pattern.now) }
 {
-    if at >= pattern.len() {
-        return None;
-    }
-    match pattern[at] {
-        b'*' => Some(Step {
-            token: Token::AnyRun,
-            len: 1,
-        }),
-        b'?' => Some(Step {
-            token: Token::One,
-            len: 1,
-        }),
-        b'\\' => {
-            if at + 1 >= pattern.len() {
-                return None;
-            }
-            Some(Step {
-                token: Token::Byte(pattern[at + 1]),
-                len: 2,
-            })
-        }
-        b'[' => {
-            if at + 1 < pattern.len() && pattern[at + 1] == b'!' {
-                list_at(pattern, at, 2, true)
-            } else {
-                list_at(pattern, at, 1, false)
-            }
-        }
-        b'{' | b'}' => None,
-        b => Some(Step {
-            token: Token::Byte(b),
-            len: 1,
-        }),
+    match pattern {
+        [b'*', rest @ ..] => Some((Token::AnyRun, rest)),
+        [b'?', rest @ ..] => Some((Token::One, rest)),
+        [b'\\', b, rest @ ..] => Some((Token::Byte(*b), rest)),
+        [b'[', b'!', rest @ ..] => listed(true, rest),
+        [b'[', rest @ ..] => listed(false, rest),
+        [] | [b'\\' | b'{' | b'}', ..] => None,
+        [b, rest @ ..] => Some((Token::Byte(*b), rest)),
     }
 }
 
@@ -168,95 +114,99 @@ pub fn well_formed(pattern: &[u8]) -> bool
     ensures meaning { Decides result (WellFormed pattern.now) }
     ensures unique { (is js : List Item) → Pattern pattern.now is → Pattern pattern.now js → is ≡ js }
 {
-    let mut at = 0;
-    while at < pattern.len() {
-        let Some(step) = token_at(pattern, at) else {
-            return false;
-        };
-        at += step.len;
+    let mut rest = pattern;
+    while let Some((_, after)) = first_token(rest) {
+        rest = after;
     }
-    true
+    rest.is_empty()
 }
 
-// Whether the item, which is no star, takes the byte.
-fn takes(pattern: &[u8], token: Token, b: u8) -> bool
-    ensures { result ≡ takes_byte (item_for pattern.now token) b }
-{
-    match token {
-        Token::AnyRun => false,
-        Token::One => true,
-        Token::Byte(a) => a == b,
-        Token::Listed { negated, from } => lists(pattern, from, b) != negated,
+impl Token<'_> {
+    // Whether the item, which is no star, takes the byte.
+    fn takes(self, b: u8) -> bool
+        ensures { result ≡ takes_byte (item_for self.entry) b }
+    {
+        match self {
+            Token::AnyRun => false,
+            Token::One => true,
+            Token::Byte(a) => a == b,
+            Token::Listed {
+                negated,
+                mut members,
+            } => members.any(|m| m.has(b)) != negated,
+        }
     }
 }
 
-// What the item at a place of the pattern does at a place of the name.
+// What is left of a pattern, and of a name, to match with each other.
 #[derive(Clone, Copy)]
-enum Move {
+struct Rest<'a> {
+    pattern: &'a [u8],
+    name: &'a [u8],
+}
+
+// What the first item of a pattern does, and what is left then.
+#[derive(Clone, Copy)]
+enum Move<'a> {
     Done,
-    Star(usize),
-    Taken(usize),
+    Star(Rest<'a>),
+    Taken(Rest<'a>),
     Stuck,
 }
 
-// Where to go on after a mismatch: behind the last star, and where its run ended so far.
-#[derive(Clone, Copy)]
-struct Retry {
-    at: usize,
-    seen: usize,
-}
-
-fn next_move(pattern: &[u8], at: usize, name: &[u8], seen: usize) -> Move
-    requires { (at ≤ length pattern.now) × (seen ≤ length name.now) }
-    ensures { Moves pattern.now name.now at seen result }
-{
-    if at == pattern.len() {
-        return if seen == name.len() {
-            Move::Done
-        } else {
-            Move::Stuck
+impl<'a> Rest<'a> {
+    // The first step of the matching.
+    fn next(self) -> Move<'a>
+        ensures { Moves self.entry result }
+    {
+        let Rest { pattern, name } = self;
+        let Some((token, rest)) = first_token(pattern) else {
+            return if pattern.is_empty() && name.is_empty() {
+                Move::Done
+            } else {
+                Move::Stuck
+            };
         };
+        if let Token::AnyRun = token {
+            return Move::Star(Rest {
+                pattern: rest,
+                name,
+            });
+        }
+        match name {
+            [b, left @ ..] if token.takes(*b) => Move::Taken(Rest {
+                pattern: rest,
+                name: left,
+            }),
+            _ => Move::Stuck,
+        }
     }
-    let Some(step) = token_at(pattern, at) else {
-        return Move::Stuck;
-    };
-    if let Token::AnyRun = step.token {
-        return Move::Star(step.len);
-    }
-    if seen < name.len() && takes(pattern, step.token, name[seen]) {
-        return Move::Taken(step.len);
-    }
-    Move::Stuck
 }
 
 pub fn is_match(pattern: &[u8], name: &[u8]) -> bool
     ensures value { result ≡ matches pattern.now name.now }
     ensures meaning { Decides result (Matches pattern.now name.now) }
 {
-    let mut at = 0;
-    let mut seen = 0;
-    let mut retry: Option<Retry> = None;
+    let mut now = Rest { pattern, name };
+    // Where to go on after a mismatch: behind the last star, and where its run ended so far.
+    let mut retry: Option<Rest> = None;
     'turns: loop {
-        match next_move(pattern, at, name, seen) {
+        match now.next() {
             Move::Done => return true,
-            Move::Star(len) => {
-                at += len;
-                retry = Some(Retry { at, seen });
+            Move::Star(rest) => {
+                now = rest;
+                retry = Some(rest);
             }
-            Move::Taken(len) => {
-                at += len;
-                seen += 1;
-            }
+            Move::Taken(rest) => now = rest,
             Move::Stuck => {
-                let Some(last) = retry else {
+                let Some(Rest { pattern, name }) = retry else {
                     return false;
                 };
-                if last.seen >= name.len() {
+                let [_, name @ ..] = name else {
                     return false;
-                }
-                at = last.at;
-                seen = last.seen + 1;
-                retry = Some(Retry { at, seen });
+                };
+                now = Rest { pattern, name };
+                retry = Some(now);
             }
         }
     }

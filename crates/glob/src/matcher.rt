@@ -17,7 +17,7 @@ pub trait Matcher {
 }
 
 // The plain glob.
-#[derive(Clone, Copy)]
+#[derive(Clone, Copy, Debug, PartialEq, Eq)]
 pub struct PlainGlob;
 
 impl Matcher for PlainGlob {
@@ -32,37 +32,37 @@ impl Matcher for PlainGlob {
 }
 
 // What a pattern and a name, each a place in the text, were answered.
-#[derive(Clone, Copy)]
+#[derive(Clone, Copy, Debug, PartialEq, Eq)]
 pub struct Answer {
     pub pattern: Place,
     pub name: Place,
     pub answer: bool,
 }
 
+impl Answer {
+    // Whether the row records this pair, over this text.
+    fn records(&self, text: &[u8], pattern: &[u8], name: &[u8]) -> bool
+        ensures { result ≡ fits text.now self.now pattern.now name.now }
+    {
+        self.pattern.holds(text, pattern) && self.name.holds(text, name)
+    }
+}
+
 // Recorded answers over one lent text. The first row that fits a pair decides; a pair that no row fits is no, and a row with
 // a place outside the text fits nothing.
-#[derive(Clone, Copy)]
+#[derive(Clone, Copy, Debug, PartialEq, Eq)]
 pub struct RecordedAnswers<'a> {
     pub text: &'a [u8],
     pub rows: &'a [Answer],
-}
-
-// Whether the row records this pair.
-fn row_fits(text: &[u8], row: Answer, pattern: &[u8], name: &[u8]) -> bool
-    ensures { result ≡ fits text.now row pattern.now name.now }
-{
-    row.pattern.holds(text, pattern) && row.name.holds(text, name)
 }
 
 impl Matcher for RecordedAnswers<'_> {
     ghost matches = { λ s. recorded s.text.now s.rows.now };
 
     fn is_match(&self, pattern: &[u8], name: &[u8]) -> bool {
-        for row in self.rows {
-            if row_fits(self.text, *row, pattern, name) {
-                return row.answer;
-            }
-        }
-        false
+        self.rows
+            .iter()
+            .find(|row| row.records(self.text, pattern, name))
+            .is_some_and(|row| row.answer)
     }
 }

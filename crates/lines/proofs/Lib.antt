@@ -1,1 +1,1 @@
-mod Splits
+mod Cuts

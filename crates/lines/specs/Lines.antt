@@ -1,5 +1,5 @@
 -- The lines of some bytes.
-use Rattle.std.specs.Prelude.{ℕ, Bool, cond, not, List, [], ◌∷◌, ◌==◌}
+use Rattle.std.specs.Prelude.{ℕ, cond, List, [], ◌∷◌, ◌==◌}
 
 -- a byte before the first line, if there is one
 abbrev pub before : ℕ → List (List ℕ) → List (List ℕ)
@@ -10,7 +10,3 @@ before b (l ∷ ls) = (b ∷ l) ∷ ls
 unfoldable pub lines_of : List ℕ → List (List ℕ)
 lines_of [] = []
 lines_of (b ∷ rest) = cond (b == 10) ([] ∷ lines_of rest) (before b (lines_of rest))
-
--- no line feed
-abbrev pub is_inside : ℕ → Bool
-is_inside b = not (b == 10)

@@ -1,1 +1,1 @@
-mod SoFar
+mod Verdicts

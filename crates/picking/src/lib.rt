@@ -8,7 +8,7 @@ use glob::{is_match, well_formed};
 use std::alloc::{AllocError, Global};
 
 // A name, and whether it was picked.
-#[derive(Clone, Copy)]
+#[derive(Clone, Copy, Debug, PartialEq, Eq)]
 pub struct Verdict<'a> {
     pub name: &'a [u8],
     pub picked: bool,
@@ -32,17 +32,13 @@ pub fn pick<'a>(
     if !well_formed(glob) {
         return Ok(None);
     }
-    let mut verdicts = Vec::new(heap);
-    let mut count = 0;
-    for name in names {
-        let picked = is_match(glob, name);
-        verdicts.push(Verdict {
-            name: *name,
-            picked,
-        })?;
-        if picked {
-            count += 1;
-        }
-    }
+    let verdicts: Vec<Verdict> = names
+        .iter()
+        .map(|&name| Verdict {
+            name,
+            picked: is_match(glob, name),
+        })
+        .collect(heap)?;
+    let count = verdicts.iter().filter(|v| v.picked).count();
     Ok(Some(Picking { verdicts, count }))
 }

@@ -2,6 +2,7 @@
 use glob::matcher::{Answer, Matcher, PlainGlob, RecordedAnswers};
 use glob::place::Place;
 use glob::{is_match, well_formed};
+use std::array::from_fn;
 
 // Each ill-formed pattern beside its nearest well-formed neighbour.
 #[test]
@@ -79,10 +80,7 @@ fn matching(rt: HostRuntime) {
 // The last star alone is tried again, so that many stars cost no more than one.
 #[test]
 fn many_stars(rt: HostRuntime) {
-    let mut pattern = [b'*'; 400];
-    for i in 0..200 {
-        pattern[2 * i + 1] = b'a';
-    }
+    let mut pattern: [u8; 400] = from_fn(|i| if i % 2 == 0 { b'*' } else { b'a' });
     let mut name = [b'a'; 10000];
     assert!(rt; is_match(&pattern, &name));
     pattern[399] = b'b';

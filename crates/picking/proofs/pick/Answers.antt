@@ -1,22 +1,22 @@
-use Rattle.std.proofs.Common.{◌+◌, cond, map, sym, refl, ap, ◌∙◌, add-zero}
-use Rattle.std.proofs.lemmas.List.{take_all}
-use Rattle.picking.proofs.SoFar.{more}
+use Rattle.std.proofs.Common.{◌≡◌, map, rules, refl}
+use Rattle.std.proofs.lemmas.Iterator.{YieldsList-from_slice, YieldsList-from_map_by}
+use Rattle.std.proofs.lemmas.Iterator.Consumers.{map_from_collect}
+use borrow.Author.Tests.{tests}
+use Rattle.glob.specs.Reading.{matches}
+use Rattle.glob.proofs.Spelling.{matching-is}
+use Rattle.picking.proofs.Verdicts.{said, answered, all-named, all-right}
 use Rattle.picking.proofs.pick.Goals as goal
-use Rattle.picking.proofs.pick.Goals.{then-picked, else-picked}
-
-pub loop-name-preserved : goal.loop-name-preserved
-loop-name-preserved c =
-    more _ _ _ _ _ c.loop-name.count c.if-picked.count c.loop-name.name-index _ c.loop-name-test.true c.loop-name.invariant
-    c.in_ok-push.ensures.items refl c.is_match-picked.ensures.meaning
-    (elim c.if-picked.branch [
-      | then-picked w ↦ w.count-is ∙ ap (λ b. c.loop-name.count + cond b 1 0) (sym w.if-picked.true)
-      | else-picked w ↦ w.count-is ∙ sym (add-zero c.loop-name.count) ∙ ap (λ b. c.loop-name.count + cond b 1 0) (sym w.if-picked.false)
-    ])
 
 pub returns : goal.returns
-returns c = let s = c.loop-name.invariant in record {
-  fine = c.if-not-well_formed.ensures.meaning.0 refl;
-  all = s.all ∙ ap (map (λ x. x.now)) (take_all c.loop-name.name-index c.args.names.now c.loop-name-test.false);
-  right = s.right;
-  count = s.counted;
-}
+returns c =
+    let glob = c.args.glob.now in
+    let ns = c.args.names.now in
+    let r = map_from_collect c.collect.result c.collect.ensures.ran
+    (YieldsList-from_map_by _ said (answered (matches glob)) (YieldsList-from_slice ns (search rules)) c.map.ensures.closure (λ x r q k. search (rules, tests))) in
+    let e : map said c.in_ok-verdicts.verdicts.items ≡ map (answered (matches glob)) ns = rw c.in_ok-verdicts.was at r in
+    record {
+      fine = c.if-not-well_formed.ensures.meaning.0 refl;
+      all = all-named (matches glob) _ ns e;
+      right = all-right (matches glob) glob (matching-is glob) _ ns e;
+      count = search rules;
+    }
