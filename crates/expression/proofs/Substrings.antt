@@ -36,15 +36,5 @@ found_in : (v start rest : List ℕ) → holds v (start ++ (v ++ rest)) ≡ true
 found_in v [] rest = first v (v ++ rest) (begins-whole v rest)
 found_in v (b ∷ start) rest = or_right (begins v (b ∷ (start ++ (v ++ rest)))) (holds v (start ++ (v ++ rest))) (found_in v start rest)
 
-holds-decides : (v n : List ℕ) → Decides (holds v n) (StandsIn v n)
+pub holds-decides : (v n : List ℕ) → Decides (holds v n) (StandsIn v n)
 holds-decides v n = (held v n, λ p. ap (holds v) p.2 ∙ found_in v p.0 p.1)
-
-pub taken-decides : (glob : List ℕ → List ℕ → Bool) (k : MatchKind) (v n : List ℕ) → Decides (is_taken glob k v n) (Taken glob k v n)
-taken-decides glob Equal v n = bytes_eq-Decides v n
-taken-decides glob Contains v n = holds-decides v n
-taken-decides glob Glob v n = (λ e. e, λ e. e)
-
--- nothing but the empty value stands in the empty name
-pub holds-none : (v : List ℕ) → eqb (length v) 0 ≡ holds v []
-holds-none [] = refl
-holds-none (b ∷ v) = ne_eqb (suc (length v)) 0 (λ e. omega arith)
