@@ -5,21 +5,11 @@ use Rattle.std.proofs.lemmas.List.{take-append-drop, take_at}
 use Rattle.std.proofs.lemmas.Bool.{or_cases, or_left, or_right, ne_eqb}
 use Rattle.expression.specs.declared.name_matcher.MatchKind.{MatchKind}
 use Rattle.expression.specs.declared.name_matcher.MatchKind.TheVariants.{Equal, Contains, Glob}
+use Rattle.expression.specs.Fitting.{begins-rest, begins-whole}
 use Rattle.expression.specs.Names.{StandsIn, Taken, begins, holds, is_taken}
-
-pub begins-rest : (v n : List ℕ) → begins v n ≡ true → n ≡ v ++ drop (length v) n
-begins-rest v n h =
-    let e = (bytes_eq-Decides v (take (length v) n)).0 h in
-    sym (take-append-drop (length v) n) ∙ ap (λ (z : List ℕ). z ++ drop (length v) n) (sym e)
 
 begins-there : (v n : List ℕ) → begins v n ≡ true → StandsIn v n
 begins-there v n h = ([], drop (length v) n, begins-rest v n h)
-
-begins-whole : (v rest : List ℕ) → begins v (v ++ rest) ≡ true
-begins-whole v rest = (bytes_eq-Decides v (take (length v) (v ++ rest))).1 (sym (take_at v rest (length v) refl))
-
-pub begins-front : (v n rest : List ℕ) → n ≡ v ++ rest → begins v n ≡ true
-begins-front v n rest e = ap (begins v) e ∙ begins-whole v rest
 
 later : (v n : List ℕ) (b : ℕ) → StandsIn v n → StandsIn v (b ∷ n)
 later v n b p = (b ∷ p.0, p.1, ap (λ (z : List ℕ). b ∷ z) p.2)

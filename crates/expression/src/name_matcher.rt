@@ -3,7 +3,7 @@
 
 // Which names a value takes: those equal to it, those that contain it, or those that match it as a glob.
 ghost use Rattle.std.specs.Prelude.{◌≡◌, Decides};
-ghost use Rattle.expression.specs.Names.{begins, holds, is_taken, Taken};
+ghost use Rattle.expression.specs.Names.{holds, is_taken, Taken};
 
 use glob::matcher::Matcher;
 
@@ -13,13 +13,6 @@ pub enum MatchKind {
     Equal,
     Contains,
     Glob,
-}
-
-// Whether the name begins with the value.
-pub(crate) fn begins_with(value: &[u8], name: &[u8]) -> bool
-    ensures { result ≡ begins value.now name.now }
-{
-    name.starts_with(value)
 }
 
 // Whether the value stands somewhere in the name.
