@@ -1,12 +1,8 @@
 -- The test for a value in a name, against a start, the value and a rest.
-use Rattle.std.proofs.Common.{◌≡◌, ℕ, suc, Bool, true, eqb, List, [], ◌∷◌, ◌++◌, length, take, drop, Decides, sym, refl, ap, ◌∙◌, inl, inr, arith}
-use Rattle.std.proofs.lemmas.Slice.Eq.{bytes_eq-Decides}
-use Rattle.std.proofs.lemmas.List.{take-append-drop, take_at}
-use Rattle.std.proofs.lemmas.Bool.{or_cases, or_left, or_right, ne_eqb}
-use Rattle.expression.specs.declared.name_matcher.MatchKind.{MatchKind}
-use Rattle.expression.specs.declared.name_matcher.MatchKind.TheVariants.{Equal, Contains, Glob}
+use Rattle.std.proofs.Common.{◌≡◌, ℕ, true, List, [], ◌∷◌, ◌++◌, length, drop, Decides, ap, ◌∙◌, inl, inr}
+use Rattle.std.proofs.lemmas.Bool.{or_cases, or_left, or_right}
 use Rattle.expression.specs.Fitting.{begins-rest, begins-whole}
-use Rattle.expression.specs.Names.{StandsIn, Taken, begins, holds, is_taken}
+use Rattle.expression.specs.Names.{StandsIn, begins, holds}
 
 begins-there : (v n : List ℕ) → begins v n ≡ true → StandsIn v n
 begins-there v n h = ([], drop (length v) n, begins-rest v n h)

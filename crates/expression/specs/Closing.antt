@@ -1,6 +1,6 @@
 -- How sets of packages are closed under chains of edges, step by step.
 use Rattle.std.specs.Prelude.{◌≡◌, ℕ, Bool, false, ◌&&◌, ◌||◌, List, [], ◌∷◌, ◌==◌, nat_lt}
-use Rattle.expression.specs.NumberSets.{size, member}
+use Rattle.expression.specs.NumberSets.{size}
 use Rattle.expression.specs.Oracles.{link}
 use Rattle.expression.specs.declared.number_set.NumberSet.{NumberSet}
 use Rattle.expression.specs.declared.oracle.Edge.{Edge}

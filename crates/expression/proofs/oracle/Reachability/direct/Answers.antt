@@ -1,5 +1,4 @@
 use Rattle.std.proofs.Common.{arith}
-use Rattle.std.proofs.lemmas.Grind.{common_steps}
 use Rattle.expression.specs.NumberSets.{size}
 use Rattle.expression.specs.declared.oracle.Edge.{Edge}
 use Rattle.expression.proofs.Links.{link-none, edge-next}
