@@ -3,46 +3,25 @@ use Rattle.std.proofs.Common.{◌≡◌, ℕ, zero, suc, ◌+◌, ◌*◌, ◌/�
 use lib.Bits.{bit_or}
 use Rattle.std.proofs.lemmas.Nat.{div_below}
 use Rattle.std.proofs.lemmas.List.{get_or-set_same, get_or-set_other, length-set, length-replicate, get_or-replicate, get_or_past, set_past, length-take-le, drop_more, get_or_at, set_at, append_assoc, append-nil, take_more, take_all, drop_all}
+use Rattle.std.proofs.lemmas.Grind.{common_steps}
 use Rattle.std.proofs.lemmas.Bool.{cases_eq, cases_lt, eq-eqb, ne_eqb, eqb-true, lt-ltb, le-ltb, cond-true, cond-false, cases_order, and_parts, false≢true}
 use Rattle.expression.specs.NumberSets.{bit, member, inserted, united, void, gathered, set_of, some_below, SetLaws}
 use Rattle.expression.proofs.Bits.{bit-or, bit-zero, bit-one, none-zero}
 
-or_swap : (a b : Bool) → (a || b) ≡ (b || a)
-or_swap true true = refl
-or_swap true false = refl
-or_swap false true = refl
-or_swap false false = refl
+
 
 same_rest : (n m : ℕ) → n / 64 ≡ m / 64 → eqb (n % 64) (m % 64) ≡ eqb n m
-same_rest n m e = by (cases_eq n m)
-  where
-    by : (n ≡ m) ⊎ (n ≡ m → ⊥) → eqb (n % 64) (m % 64) ≡ eqb n m
-    by (inl s) = eq-eqb _ _ (ap (λ (x : ℕ). x % 64) s) ∙ sym (eq-eqb n m s)
-    by (inr d) = ne_eqb _ _ (λ r. d (omega arith)) ∙ sym (ne_eqb n m d)
+same_rest n m e = grind arith
 
 pub member-inserted : (ws : List ℕ) (n m : ℕ) → n / 64 < length ws → member (inserted ws n) m ≡ (eqb n m || member ws m)
-member-inserted ws n m l = by (cases_eq (m / 64) (n / 64))
-  where
-    by : (m / 64 ≡ n / 64) ⊎ (m / 64 ≡ n / 64 → ⊥) → member (inserted ws n) m ≡ (eqb n m || member ws m)
-    by (inl e) =
-        ap (λ (k : ℕ). bit (get_or (inserted ws n) k 0) (m % 64)) e
-        ∙ ap (λ (w : ℕ). bit w (m % 64)) (get_or-set_same ws (n / 64) (bit_or (get_or ws (n / 64) 0) (2 ^ (n % 64))) 0 l)
-        ∙ bit-or (get_or ws (n / 64) 0) (2 ^ (n % 64)) (m % 64)
-        ∙ or_swap (bit (get_or ws (n / 64) 0) (m % 64)) (bit (2 ^ (n % 64)) (m % 64))
-        ∙ ap (λ (b : Bool). b || bit (get_or ws (n / 64) 0) (m % 64)) (bit-one (n % 64) (m % 64) ∙ same_rest n m (sym e))
-        ∙ ap (λ (k : ℕ). eqb n m || bit (get_or ws k 0) (m % 64)) (sym e)
-    by (inr d) =
-        ap (λ (w : ℕ). bit w (m % 64)) (get_or-set_other ws (n / 64) (m / 64) (bit_or (get_or ws (n / 64) 0) (2 ^ (n % 64))) 0 d)
-        ∙ ap (λ (b : Bool). b || member ws m) (sym (ne_eqb n m (λ s. d (ap (λ (x : ℕ). x / 64) (sym s)))))
+member-inserted ws n m l =
+    let new = bit-or (get_or ws (n / 64) 0) (2 ^ (n % 64)) (m % 64) in
+    grind (arith, common_steps, bit-one (n % 64) (m % 64), same_rest n m)
 
 pub length-gathered : (ws : List ℕ) (p : ℕ → Bool) (n : ℕ) → length (gathered ws p n) ≡ length ws
 unfolding gathered
 length-gathered ws p zero = refl
-length-gathered ws p (suc n) = by (p n) (length-gathered ws p n)
-  where
-    by : (b : Bool) → length (gathered ws p n) ≡ length ws → length (cond b (inserted (gathered ws p n) n) (gathered ws p n)) ≡ length ws
-    by true h = length-set (gathered ws p n) (n / 64) _ ∙ h
-    by false h = h
+length-gathered ws p (suc n) = grind (arith, common_steps, length-gathered ws p n)
 
 or_no : (a : Bool) → (a || false) ≡ a
 or_no true = refl
@@ -54,25 +33,7 @@ or_yes false = refl
 
 -- the numbers below n that pass, one more
 one_more : (p : ℕ → Bool) (n k : ℕ) (b : Bool) → p n ≡ b → (a : Bool) → (cond b (eqb n k) false || (a || (ltb k n && p k))) ≡ (a || (ltb k (suc n) && p k))
-one_more p n k b e a = by (cases_order k n) b e
-  where
-    by : (k ≡ n) ⊎ ((k < n) ⊎ (n < k)) → (b : Bool) → p n ≡ b → (cond b (eqb n k) false || (a || (ltb k n && p k))) ≡ (a || (ltb k (suc n) && p k))
-    by (inl s) true e =
-        let t : p k ≡ true = ap p s ∙ e in
-        ap (λ (x : Bool). x || (a || (ltb k n && p k))) (eq-eqb n k (sym s))
-        ∙ sym (ap (λ (x : Bool). a || (x && p k)) (lt-ltb k (suc n) (omega arith)) ∙ ap (λ (x : Bool). a || x) t ∙ or_yes a)
-    by (inl s) false e =
-        let t : p k ≡ false = ap p s ∙ e in
-        ap (λ (x : Bool). a || (x && p k)) (le-ltb k n (omega arith)) ∙ or_no a
-        ∙ sym (ap (λ (x : Bool). a || (x && p k)) (lt-ltb k (suc n) (omega arith)) ∙ ap (λ (x : Bool). a || x) t ∙ or_no a)
-    by (inr (inl l)) true e =
-        ap (λ (x : Bool). x || (a || (ltb k n && p k))) (ne_eqb n k (λ s. omega arith))
-        ∙ ap (λ (x : Bool). a || (x && p k)) (lt-ltb k n l ∙ sym (lt-ltb k (suc n) (omega arith)))
-    by (inr (inl l)) false e = ap (λ (x : Bool). a || (x && p k)) (lt-ltb k n l ∙ sym (lt-ltb k (suc n) (omega arith)))
-    by (inr (inr g)) true e =
-        ap (λ (x : Bool). x || (a || (ltb k n && p k))) (ne_eqb n k (λ s. omega arith))
-        ∙ ap (λ (x : Bool). a || (x && p k)) (le-ltb k n (omega arith) ∙ sym (le-ltb k (suc n) (omega arith)))
-    by (inr (inr g)) false e = ap (λ (x : Bool). a || (x && p k)) (le-ltb k n (omega arith) ∙ sym (le-ltb k (suc n) (omega arith)))
+one_more p n k b e a = grind arith
 
 fits_word : (ws : List ℕ) (p : ℕ → Bool) (n : ℕ) → n < 64 * length ws → n / 64 < length (gathered ws p n)
 fits_word ws p n l = omega (arith, length-gathered ws p n, div_below n 64 (length ws) (omega arith) (omega arith))
@@ -81,13 +42,8 @@ fits_word ws p n l = omega (arith, length-gathered ws p n, div_below n 64 (lengt
 pub member-gathered : (ws : List ℕ) (p : ℕ → Bool) (n k : ℕ) → n ≤ 64 * length ws → member (gathered ws p n) k ≡ (member ws k || (ltb k n && p k))
 unfolding gathered
 member-gathered ws p zero k l = sym (ap (λ (x : Bool). member ws k || (x && p k)) (le-ltb k 0 (omega arith)) ∙ or_no (member ws k))
-member-gathered ws p (suc n) k l = by (p n) refl (member-gathered ws p n k (omega arith))
-  where
-    by : (b : Bool) → p n ≡ b → member (gathered ws p n) k ≡ (member ws k || (ltb k n && p k)) → member (cond b (inserted (gathered ws p n) n) (gathered ws p n)) k ≡ (member ws k || (ltb k (suc n) && p k))
-    by true e h =
-        member-inserted (gathered ws p n) n k (fits_word ws p n (omega arith))
-        ∙ ap (λ (x : Bool). eqb n k || x) h ∙ one_more p n k true e (member ws k)
-    by false e h = h ∙ one_more p n k false e (member ws k)
+member-gathered ws p (suc n) k l =
+    grind (arith, member-gathered ws p n k (omega arith), member-inserted (gathered ws p n) n k (fits_word ws p n (omega arith)))
 
 get_or-none : (w i : ℕ) → get_or {A = ℕ} (replicate w 0) i 0 ≡ 0
 get_or-none w i = by (cases_lt i w)
@@ -156,15 +112,11 @@ some_more p n = ap (some_below p) (add-one n)
 
 pub some_at : (p : ℕ → Bool) (n k : ℕ) → k < n → p k ≡ true → some_below p n ≡ true
 some_at p zero k l h = absurd (omega arith)
-some_at p (suc n) k l h = by (cases_eq k n) (λ m. some_at p n k m h)
-  where
-    by : (k ≡ n) ⊎ (k ≡ n → ⊥) → (k < n → some_below p n ≡ true) → (some_below p n || p n) ≡ true
-    by (inl e) f = ap (λ (b : Bool). some_below p n || b) (ap p (sym e) ∙ h) ∙ or_yes (some_below p n)
-    by (inr d) f = ap (λ (b : Bool). b || p n) (f (omega (arith, d)))
+some_at p (suc n) k l h = grind (arith, some_at p n k)
 
 pub some_same : (p q : ℕ → Bool) (n : ℕ) → ((k : ℕ) → k < n → p k ≡ q k) → some_below p n ≡ some_below q n
 some_same p q zero h = refl
-some_same p q (suc n) h = ap (λ (b : Bool). b || p n) (some_same p q n (λ k l. h k (omega arith))) ∙ ap (λ (b : Bool). some_below q n || b) (h n (omega arith))
+some_same p q (suc n) h = grind (arith, h n, some_same p q n (λ k l. h k (omega arith)))
 
 -- a number that no word is for
 pub member-past : (ws : List ℕ) (n : ℕ) → 64 * length ws ≤ n → member ws n ≡ false
@@ -179,11 +131,7 @@ word-for ws n l = div_below n 64 (length ws) (omega arith) (omega arith)
 
 -- what one insertion does, whatever the number
 pub member-insert : (ws : List ℕ) (n m : ℕ) → member (inserted ws n) m ≡ ((ltb n (64 * length ws) && eqb n m) || member ws m)
-member-insert ws n m = by (cases_lt n (64 * length ws))
-  where
-    by : (n < 64 * length ws) ⊎ (64 * length ws ≤ n) → member (inserted ws n) m ≡ ((ltb n (64 * length ws) && eqb n m) || member ws m)
-    by (inl l) = member-inserted ws n m (word-for ws n l) ∙ ap (λ (b : Bool). (b && eqb n m) || member ws m) (sym (lt-ltb n (64 * length ws) l))
-    by (inr g) = ap (λ (z : List ℕ). member z m) (inserted-past ws n g) ∙ ap (λ (b : Bool). (b && eqb n m) || member ws m) (sym (le-ltb n (64 * length ws) g))
+member-insert ws n m = grind (arith, member-inserted ws n m, inserted-past ws n, word-for ws n)
 
 -- a set with a word that is not 0 has a number
 pub word-member : (ws : List ℕ) (i : ℕ) → get_or ws i 0 < 2 ^ 64 → ((n : ℕ) → member ws n ≡ false) → get_or ws i 0 ≡ 0
