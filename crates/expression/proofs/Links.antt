@@ -1,8 +1,7 @@
 -- What a change of one set does to the links.
-use Rattle.std.proofs.Common.{◌≡◌, ℕ, ◌+◌, ◌<◌, ◌≤◌, Bool, true, false, ◌&&◌, ◌||◌, eqb, ltb, ◌⊎◌, List, length, get_or, drop, set, replicate, refl, ap, ◌∙◌, inl, inr, arith}
-use Rattle.std.proofs.lemmas.List.{get_or_past, get_or-replicate, length-replicate, length-set, at_drop_more}
+use Rattle.std.proofs.Common.{◌≡◌, ℕ, ◌+◌, ◌%◌, ◌<◌, ◌≤◌, Bool, true, false, ◌&&◌, ◌||◌, eqb, ltb, List, length, get_or, drop, set, replicate, refl, arith}
+use Rattle.std.proofs.lemmas.List.{get_or-replicate, length-replicate, length-set, at_drop_more}
 use Rattle.std.proofs.lemmas.Grind.{common_steps}
-use Rattle.std.proofs.lemmas.Bool.{cases_lt}
 use Rattle.expression.specs.NumberSets.{size, member}
 use Rattle.expression.specs.declared.number_set.NumberSet.{NumberSet}
 use Rattle.expression.specs.declared.oracle.Edge.{Edge}
@@ -22,7 +21,7 @@ linked : (rows : List NumberSet) (x y : ℕ) (s : NumberSet) → x < length rows
 linked rows x y s l k h a b = more-in rows x s (eqb y) l (λ n. grind (arith, h n)) a b
 
 pub link-past : (rows : List NumberSet) (a b : ℕ) → length rows ≤ a → link rows a b ≡ false
-link-past rows a b h = ap (λ (s : NumberSet). member s.words b) (get_or_past rows a no_packages h) ∙ bit-zero _
+link-past rows a b h = grind (arith, common_steps, bit-zero (b % 64))
 
 -- the sets below i merged with that of k
 abbrev pub UpTo : List NumberSet → ℕ → ℕ → NumberSet → List NumberSet → Type 0
@@ -36,11 +35,7 @@ join-all was rows i k l h a b = grind (arith, common_steps, h a b, link-past was
 
 -- as many sets of no package as there are packages
 pub link-none : (n : ℕ) (s : NumberSet) → ((b : ℕ) → member s.words b ≡ false) → (a b : ℕ) → link (replicate n s) a b ≡ false
-link-none n s h a b = by (cases_lt a n)
-  where
-    by : (a < n) ⊎ (n ≤ a) → link (replicate n s) a b ≡ false
-    by (inl l) = ap (λ (t : NumberSet). member t.words b) (get_or-replicate n a s no_packages l) ∙ h b
-    by (inr g) = link-past (replicate n s) a b (omega (arith, length-replicate n s))
+link-none n s h a b = grind (arith, common_steps, h b, get_or-replicate n a s no_packages, link-past (replicate n s) a b, length-replicate n s)
 
 -- an edge that is kept, and one that is skipped
 pub edge_kept : (e : Edge) (was : List NumberSet) (s t u : NumberSet) → length was ≡ size → e.from < size → e.to < size →

@@ -2,13 +2,11 @@
 use Rattle.std.proofs.Common.{◌≡◌, ℕ, zero, suc, ◌+◌, ◌*◌, ◌/◌, ◌%◌, ◌^◌, ◌<◌, ◌≤◌, Bool, true, false, cond, not, ◌&&◌, ◌||◌, eqb, ltb, ◌⊎◌, List, [], ◌∷◌, ◌++◌, length, get_or, take, drop, set, replicate, sym, refl, ap, ◌∙◌, inl, inr, add-one, arith}
 use lib.Bits.{bit_or}
 use Rattle.std.proofs.lemmas.Nat.{div_below}
-use Rattle.std.proofs.lemmas.List.{get_or-set_same, get_or-set_other, length-set, length-replicate, get_or-replicate, get_or_past, set_past, length-take-le, drop_more, get_or_at, set_at, append_assoc, append-nil, take_more, take_all, drop_all}
+use Rattle.std.proofs.lemmas.List.{length-replicate, get_or-replicate, get_or_past, set_past, length-take-le, drop_more, get_or_at, set_at, append_assoc, take_more, take_all, drop_all}
 use Rattle.std.proofs.lemmas.Grind.{common_steps}
-use Rattle.std.proofs.lemmas.Bool.{cases_eq, cases_lt, eq-eqb, ne_eqb, eqb-true, lt-ltb, le-ltb, cond-true, cond-false, cases_order, and_parts, false≢true}
+use Rattle.std.proofs.lemmas.Bool.{cases_lt, le-ltb}
 use Rattle.expression.specs.NumberSets.{bit, member, inserted, united, void, gathered, set_of, some_below, SetLaws}
 use Rattle.expression.proofs.Bits.{bit-or, bit-zero, bit-one, none-zero}
-
-
 
 same_rest : (n m : ℕ) → n / 64 ≡ m / 64 → eqb (n % 64) (m % 64) ≡ eqb n m
 same_rest n m e = grind arith
@@ -63,8 +61,8 @@ member-set_of w p n k l =
 
 void-get_or : (ws : List ℕ) (i : ℕ) → void ws ≡ true → get_or ws i 0 ≡ 0
 void-get_or [] i h = refl
-void-get_or (w ∷ ws) zero h = eqb-true w 0 (and_parts (eqb w 0) (void ws) h).0
-void-get_or (w ∷ ws) (suc i) h = void-get_or ws i (and_parts (eqb w 0) (void ws) h).1
+void-get_or (w ∷ ws) zero h = grind arith
+void-get_or (w ∷ ws) (suc i) h = grind (arith, void-get_or ws i)
 
 -- a set of zeros has nothing
 pub void-member : (ws : List ℕ) (k : ℕ) → void ws ≡ true → member ws k ≡ false
@@ -75,23 +73,15 @@ void-none zero = refl
 void-none (suc w) = void-none w
 
 member-void : (ws : List ℕ) (k : ℕ) → member ws k ≡ true → void ws ≡ false
-member-void ws k h = by (void ws) refl
-  where
-    by : (b : Bool) → void ws ≡ b → b ≡ false
-    by true e = absurd (false≢true (sym (void-member ws k e) ∙ h))
-    by false e = refl
+member-void ws k h = grind (arith, void-member ws k)
 
 -- a set of the numbers below n that pass is empty exactly if none passes
 pub void-set_of : (w : ℕ) (p : ℕ → Bool) (n : ℕ) → n ≤ 64 * w → void (set_of w p n) ≡ not (some_below p n)
 unfolding gathered
 void-set_of w p zero l = void-none w
-void-set_of w p (suc n) l = by (p n) refl (void-set_of w p n (omega arith))
-  where
-    by : (b : Bool) → p n ≡ b → void (set_of w p n) ≡ not (some_below p n) → void (cond b (inserted (set_of w p n) n) (set_of w p n)) ≡ not (some_below p n || b)
-    by true e h =
-        member-void (inserted (set_of w p n) n) n (member-inserted (set_of w p n) n n (fits_word (replicate w 0) p n (omega (arith, length-replicate {A = ℕ} w 0))) ∙ ap (λ (x : Bool). x || member (set_of w p n) n) (eq-eqb n n refl))
-        ∙ sym (ap not (or_yes (some_below p n)))
-    by false e h = h ∙ sym (ap not (or_no (some_below p n)))
+void-set_of w p (suc n) l =
+    let new = member-inserted (set_of w p n) n n (fits_word (replicate w 0) p n (omega (arith, length-replicate {A = ℕ} w 0))) in
+    grind (arith, void-set_of w p n (omega arith), member-void (inserted (set_of w p n) n) n)
 
 -- the steps of a loop that gathers
 pub set_of-none : (w : ℕ) (p : ℕ → Bool) → replicate w 0 ≡ set_of w p 0
@@ -100,11 +90,11 @@ set_of-none w p = refl
 
 pub set_of-in : (w : ℕ) (p : ℕ → Bool) (n : ℕ) (s : List ℕ) → p n ≡ true → s ≡ set_of w p n → inserted s n ≡ set_of w p (n + 1)
 unfolding gathered
-set_of-in w p n s h e = ap (λ (x : List ℕ). inserted x n) e ∙ sym (ap (λ (k : ℕ). set_of w p k) (add-one n) ∙ cond-true (p n) _ _ h)
+set_of-in w p n s h e = rw add-one (grind (arith, h, e))
 
 pub set_of-out : (w : ℕ) (p : ℕ → Bool) (n : ℕ) (s : List ℕ) → p n ≡ false → s ≡ set_of w p n → s ≡ set_of w p (n + 1)
 unfolding gathered
-set_of-out w p n s h e = e ∙ sym (ap (λ (k : ℕ). set_of w p k) (add-one n) ∙ cond-false (p n) _ _ h)
+set_of-out w p n s h e = rw add-one (grind (arith, h, e))
 
 -- the steps of a loop that looks for one that passes
 pub some_more : (p : ℕ → Bool) (n : ℕ) → some_below p (n + 1) ≡ (some_below p n || p n)
@@ -172,8 +162,8 @@ united-more ws vs i now l e h =
 
 pub united-all : (ws vs : List ℕ) (i : ℕ) (now : List ℕ) → length ws ≤ i → now ≡ take i (united ws vs) ++ drop i ws → now ≡ united ws vs
 united-all ws vs i now l h =
-    h ∙ ap (λ (z : List ℕ). take i (united ws vs) ++ z) (drop_all i ws l) ∙ append-nil (take i (united ws vs))
-    ∙ take_all i (united ws vs) (omega (arith, length-united ws vs))
+    let n = length-united ws vs in
+    grind (arith, common_steps, take_all i (united ws vs), drop_all i ws l)
 
 pub set-laws : SetLaws
 set-laws = record {
