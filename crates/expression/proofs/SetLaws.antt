@@ -120,8 +120,8 @@ word-for : (ws : List ℕ) (n : ℕ) → n < 64 * length ws → n / 64 < length 
 word-for ws n l = div_below n 64 (length ws) (omega arith) (omega arith)
 
 -- what one insertion does, whatever the number
-pub member-insert : (ws : List ℕ) (n m : ℕ) → member (inserted ws n) m ≡ ((ltb n (64 * length ws) && eqb n m) || member ws m)
-member-insert ws n m = grind (arith, member-inserted ws n m, inserted-past ws n, word-for ws n)
+pub member_insert : (ws : List ℕ) (n m : ℕ) → member (inserted ws n) m ≡ ((ltb n (64 * length ws) && eqb n m) || member ws m)
+member_insert ws n m = grind (arith, member-inserted ws n m, inserted-past ws n, word-for ws n)
 
 -- a set with a word that is not 0 has a number
 pub word-member : (ws : List ℕ) (i : ℕ) → get_or ws i 0 < 2 ^ 64 → ((n : ℕ) → member ws n ≡ false) → get_or ws i 0 ≡ 0

@@ -12,6 +12,7 @@ const WORDS: usize = 1;
 pub const SIZE: usize = 64 * WORDS;
 
 // A set of numbers below 64.
+// Clauses name its words: a model as the list of the words would read no plainer, and as tests on numbers no two sets compare by `≡`.
 #[derive(Clone, Copy, PartialEq, Eq, Debug, Default)]
 pub struct NumberSet {
     words: [u64; WORDS],
@@ -48,6 +49,7 @@ impl NumberSet {
     }
 
     // Whether the set has the number. One that is not below 64 is in no set.
+    #[tactic(auto, unfolding(crate::specs::NumberSets::bit))]
     pub fn contains(&self, n: usize) -> bool
         ensures value { result ≡ member self.now.words n }
         ensures outside { size ≤ n → result ≡ false }

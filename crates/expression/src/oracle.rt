@@ -110,6 +110,7 @@ pub struct BitTable<'a> {
 impl DependencyOracle for BitTable<'_> {
     ghost depends = { λ s. table_depends s.rows.now };
 
+    #[tactic(auto, unfolding(crate::specs::NumberSets::bit))]
     fn depends_on(&self, a: usize, b: usize) -> bool {
         let known = self.rows.len().min(ROW_BITS);
         a < known && b < known && (self.rows[a] >> b) % 2 == 1
