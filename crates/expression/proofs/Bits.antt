@@ -1,18 +1,11 @@
 -- One bit of a sum of bits, of a power of two, and of nothing.
-use Rattle.std.proofs.Common.{◌≡◌, ℕ, zero, suc, ◌+◌, ◌-◌, ◌/◌, ◌%◌, ◌^◌, ◌<◌, max, false, ◌||◌, eqb, ◌⊎◌, sym, refl, ap, ◌∙◌, inl, inr, one-mul, add-one, arith}
+use Rattle.std.proofs.Common.{◌≡◌, ℕ, zero, suc, ◌+◌, ◌-◌, ◌/◌, ◌%◌, ◌^◌, ◌<◌, max, false, ◌||◌, eqb, sym, refl, ap, ◌∙◌, one-mul, add-one, arith}
 use lib.Bits.{bit_or, or_step, shifted_even}
 use Rattle.std.proofs.lemmas.Nat.{or_shr, mod-mul-add, mod_below, pow_pos, pow-add, shl-shr, div_below, pow_below, shr-shr, shr_below}
-use Rattle.std.proofs.lemmas.Bool.{cases_order, ne_eqb, eq-eqb, eqb-false}
 use Rattle.expression.specs.NumberSets.{bit}
 
 max-bit : (p q : ℕ) → p < 2 → q < 2 → eqb (max p q) 1 ≡ (eqb p 1 || eqb q 1)
-max-bit zero zero h k = refl
-max-bit zero (suc zero) h k = refl
-max-bit zero (suc (suc q)) h k = absurd (omega arith)
-max-bit (suc zero) zero h k = refl
-max-bit (suc zero) (suc zero) h k = refl
-max-bit (suc zero) (suc (suc q)) h k = absurd (omega arith)
-max-bit (suc (suc p)) q h k = absurd (omega arith)
+max-bit p q h k = grind arith
 
 max-lt : (p q : ℕ) → p < 2 → q < 2 → max p q < 2
 max-lt p q h k = omega arith
@@ -50,14 +43,9 @@ high-even k n h = by (k - n) refl
 
 pub bit-one : (k n : ℕ) → bit (2 ^ k) n ≡ eqb k n
 unfolding bit
-bit-one k n = by (cases_order k n)
-  where
-    by : (k ≡ n) ⊎ ((k < n) ⊎ (n < k)) → bit (2 ^ k) n ≡ eqb k n
-    by (inl e) =
-        let one : 2 ^ k / 2 ^ k ≡ 1 = ap (λ (m : ℕ). m / 2 ^ k) (sym (one-mul (2 ^ k))) ∙ shl-shr 1 k in
-        ap (λ (j : ℕ). bit (2 ^ k) j) (sym e) ∙ ap (λ (m : ℕ). eqb (m % 2) 1) one ∙ sym (eq-eqb k n e)
-    by (inr (inl l)) = bit-small (2 ^ k) n (pow_below k n l) ∙ sym (ne_eqb k n (λ e. omega arith))
-    by (inr (inr g)) = ap (λ (m : ℕ). eqb m 1) (high-even k n g) ∙ sym (ne_eqb k n (λ e. omega arith))
+bit-one k n =
+    let one = shl-shr 1 k in
+    grind (arith, high-even k n, pow_below k n, small-shr (2 ^ k) n)
 
 -- the bits of a half, and a word below 2 ^ k none of whose first k bits is set
 half-bit : (w j : ℕ) → bit (w / 2) j ≡ bit w (1 + j)
@@ -68,14 +56,6 @@ pub none-zero : (k w : ℕ) → w < 2 ^ k → ((j : ℕ) → j < k → bit w j �
 unfolding bit
 none-zero zero w l f = omega arith
 none-zero (suc k) w l f =
-    let less : w / 2 < 2 ^ k = shr_below w k 1 (rw (add-one) l) in
-    let rest : w / 2 ≡ 0 = none-zero k (w / 2) less (λ j h. half-bit w j ∙ f (1 + j) (omega arith)) in
-    let last = eqb-false (w / 2 ^ 0 % 2) 1 (f 0 (omega arith)) in
-    let low = mod_below w 2 (omega arith) in
-    let even : w % 2 ≡ 1 → ⊥ = λ e. last (omega arith) in
-    by (cases_order (w % 2) 1) rest low even
-  where
-    by : (w % 2 ≡ 1) ⊎ ((w % 2 < 1) ⊎ (1 < w % 2)) → w / 2 ≡ 0 → w % 2 < 2 → (w % 2 ≡ 1 → ⊥) → w ≡ 0
-    by (inl e) r l2 ev = absurd (ev e)
-    by (inr (inl e)) r l2 ev = omega arith
-    by (inr (inr e)) r l2 ev = absurd (omega arith)
+    let rest : w / 2 ≡ 0 = none-zero k (w / 2) (shr_below w k 1 (rw (add-one) l)) (λ j h. half-bit w j ∙ f (1 + j) (omega arith)) in
+    let last = f 0 (omega arith) in
+    grind arith

@@ -1,23 +1,22 @@
--- The first row that fits decides, and the tests decide which rows fit.
-use Rattle.std.proofs.Common.{◌≡◌, ℕ, ◌+◌, ◌<◌, Bool, true, false, cond, List, [], ◌∷◌, ◌++◌, length, get_or, drop, Some, None, Decides, Option, sym, refl, ap, ◌∙◌, inl, inr}
-use Rattle.std.specs.List.{AllByRecursion}
-use Rattle.std.proofs.lemmas.Slice.Eq.{bytes_eq-Decides}
-use Rattle.std.proofs.lemmas.List.{at_drop_more}
-use Rattle.std.proofs.lemmas.Bool.{cases_Bool, cond-true, cond-false, false≢true}
-use Rattle.std.proofs.lemmas.Bool.Decides.{Decides-and}
-use Rattle.glob.specs.Parts.{part_of, same_as}
-use Rattle.expression.specs.Queries.{Test}
-use Rattle.expression.specs.Rosters.{RowFits, PrefixFits, FirstDecides, row_fits, leads, prefix_fits, first_fit}
-use Rattle.expression.specs.declared.roster.TestRow.{TestRow}
-use Rattle.expression.specs.declared.roster.PrefixRow.{PrefixRow}
-use Rattle.expression.proofs.Substrings.{begins-rest, begins-front}
-use Rattle.expression.proofs.Trees.{none-some}
+-- The first row that fits decides, where the tests decide which rows fit.
+use Rattle.std.proofs.Common.{◌≡◌, ℕ, Bool, true, false, cond, List, [], ◌∷◌, ◌++◌, Some, None, Decides, Option, refl, ap, ◌∙◌, inl, inr}
+use Rattle.std.specs.List.{AllByRecursion, find}
+use Rattle.std.proofs.lemmas.Bool.{cases_Bool, cond-true, cond-false}
+use Rattle.expression.specs.Rosters.{FirstDecides, first_fit}
 
--- one row of the search
-pub first_on : {R : Type 0} (fits : R → Bool) (number : R → ℕ) (rows : List R) (i : ℕ) (d : R) (b : Bool) → i < length rows → b ≡ fits (get_or rows i d) → cond b (number (get_or rows i d)) (first_fit fits number (drop (i + 1) rows)) ≡ first_fit fits number (drop i rows)
-first_on fits number rows i d b l e =
-    ap (λ (t : Bool). cond t (number (get_or rows i d)) (first_fit fits number (drop (i + 1) rows))) e
-    ∙ sym (at_drop_more (first_fit fits number) rows i d l)
+-- the number of a row, or 0 where there is none
+abbrev pub or_zero : {R : Type 0} → (R → ℕ) → Option R → ℕ
+or_zero number None = 0
+or_zero number (Some row) = number row
+
+-- the first row that a search finds gives the number
+pub first_fit-find : {R : Type 0} (fits : R → Bool) (number : R → ℕ) (rows : List R) → first_fit fits number rows ≡ or_zero number (find fits rows)
+first_fit-find fits number [] = refl
+first_fit-find {R} fits number (row ∷ rows) = by (fits row) _ (find fits rows) (first_fit-find fits number rows)
+  where
+    by : (b : Bool) (m : ℕ) (found : Option R) → m ≡ or_zero number found → cond b (number row) m ≡ or_zero number (cond b (Some row) found)
+    by true m found e = refl
+    by false m found e = e
 
 module _ {R : Type 0} (fits : R → Bool) (number : R → ℕ) where
   first-at : (before : List R) (row : R) (after : List R) → AllByRecursion (λ x. fits x ≡ false) before → fits row ≡ true → first_fit fits number (before ++ row ∷ after) ≡ number row
@@ -42,23 +41,3 @@ module _ {R : Type 0} (fits : R → Bool) (number : R → ℕ) where
       first = λ before row after is h f. e ∙ ap (first_fit fits number) is ∙ first-at before row after (unfits before h) ((each row).1 f);
       none = λ h. e ∙ none-fits rows (unfits rows h);
     }
-
--- the tests decide the fits
-same-part : (w : List ℕ) (o : Option (List ℕ)) → Decides (same_as w o) (o ≡ Some w)
-same-part w None = (λ e. absurd (false≢true e), λ e. absurd (none-some e))
-same-part w (Some part) =
-    let d = bytes_eq-Decides part w in
-    (λ e. ap Some (d.0 e), λ e. d.1 (cc))
-
-pub row-decides : (text : List ℕ) (q : Test) (row : TestRow) → Decides (row_fits text q row) (RowFits text q row)
-row-decides text q row = Decides-and _ _ (same-part q.binary.id (part_of text row.binary_id)) (same-part q.name (part_of text row.test_name))
-
-leads-part : (name : List ℕ) (o : Option (List ℕ)) → Decides (leads name o) ((prefix : List ℕ) × (rest : List ℕ) × (o ≡ Some prefix) × (name ≡ prefix ++ rest))
-leads-part name None = (λ e. absurd (false≢true e), λ p. absurd (none-some p.2))
-leads-part name (Some part) = (
-  λ e. (part, drop (length part) name, refl, begins-rest part name e),
-  λ p. let same : part ≡ p.0 = cc in begins-front part name p.1 (p.3 ∙ ap (λ (z : List ℕ). z ++ p.1) (sym same)),
-)
-
-pub prefix-decides : (text : List ℕ) (q : Test) (row : PrefixRow) → Decides (prefix_fits text q row) (PrefixFits text q row)
-prefix-decides text q row = leads-part q.name (part_of text row.prefix)

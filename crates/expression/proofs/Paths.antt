@@ -1,6 +1,6 @@
 -- Closing through one package after another gives all that is reached.
-use Rattle.std.proofs.Common.{◌≡◌, ℕ, ◌+◌, ◌<◌, ◌≤◌, true, false, ◌&&◌, ◌||◌, eqb, ltb, ◌⊎◌, List, [], ◌∷◌, sym, refl, ◌∙◌, subst, inl, inr, arith}
-use Rattle.std.proofs.lemmas.Bool.{and_parts, and_from, or_cases, or_left, or_right, both_ways, eqb-true, eq-eqb, ltb-true, lt-ltb, cases_lt}
+use Rattle.std.proofs.Common.{◌≡◌, ℕ, ◌+◌, ◌<◌, true, false, ◌&&◌, ◌||◌, eqb, ltb, ◌⊎◌, List, [], ◌∷◌, sym, refl, ◌∙◌, subst, inl, inr, arith}
+use Rattle.std.proofs.lemmas.Bool.{and_parts, or_cases, both_ways, eqb-true, ltb-true}
 use Rattle.expression.specs.declared.oracle.Edge.{Edge}
 use Rattle.expression.specs.Dependencies.{Kept, Known, Reaches}
 use Rattle.expression.specs.Dependencies.Kept.{first, later}
@@ -53,9 +53,6 @@ pub directly-sound : (es : List Edge) (a b : ℕ) → directly es a b ≡ true �
 directly-sound [] a b q = absurd (both_ways false refl q)
 directly-sound (e ∷ es) a b q = elim (or_cases (edge_links e a b) (directly es a b) q) [ inl h ↦ edge-sound e es a b h | inr h ↦ reaches-later (directly-sound es a b h) ]
 
-same : (n : ℕ) → eqb n n ≡ true
-same n = eq-eqb n n refl
-
 record Marks (es : List Edge) (a b : ℕ) : Type 0 where
   pair : directly es a b ≡ true
   start : directly es a a ≡ true
@@ -63,26 +60,10 @@ record Marks (es : List Edge) (a b : ℕ) : Type 0 where
   below : b < size
 
 kept-marks : {es : List Edge} {a b : ℕ} → Kept es a b → Marks es a b
-kept-marks (first {e} {es} h k) =
-    let f = e.from in let t = e.to in
-    let ft : (ltb f size && ltb t size) ≡ true = and_from (ltb f size) (ltb t size) (lt-ltb f size h) (lt-ltb t size k) in
-    record {
-      pair = or_left (edge_links e f t) (directly es f t) (and_from (ltb f size && ltb t size) _ ft
-          (or_left ((eqb f f && eqb f t) || (eqb f f && eqb t t)) (eqb t f && eqb t t) (or_right (eqb f f && eqb f t) (eqb f f && eqb t t) (and_from (eqb f f) (eqb t t) (same f) (same t)))));
-      start = or_left (edge_links e f f) (directly es f f) (and_from (ltb f size && ltb t size) _ ft
-          (or_left ((eqb f f && eqb f f) || (eqb f f && eqb t f)) (eqb t f && eqb t f) (or_left (eqb f f && eqb f f) (eqb f f && eqb t f) (and_from (eqb f f) (eqb f f) (same f) (same f)))));
-      stop = or_left (edge_links e t t) (directly es t t) (and_from (ltb f size && ltb t size) _ ft
-          (or_right ((eqb f t && eqb f t) || (eqb f t && eqb t t)) (eqb t t && eqb t t) (and_from (eqb t t) (eqb t t) (same t) (same t))));
-      below = k;
-    }
+kept-marks (first {e} {es} h k) = record { pair = grind arith; start = grind arith; stop = grind arith; below = k }
 kept-marks (later {e} {es} {a} {b} k) =
     let m = kept-marks k in
-    record {
-      pair = or_right (edge_links e a b) (directly es a b) m.pair;
-      start = or_right (edge_links e a a) (directly es a a) m.start;
-      stop = or_right (edge_links e b b) (directly es b b) m.stop;
-      below = m.below;
-    }
+    record { pair = grind arith; start = grind arith; stop = grind arith; below = m.below }
 
 known-marks : {es : List Edge} {a : ℕ} → Known es a → directly es a a ≡ true
 known-marks (source k) = (kept-marks k).start
@@ -105,34 +86,13 @@ module _ (es : List Edge) where
 
   module _ (k : ℕ) (was now : List NumberSet) (t : Through es k was) (l : (i j : ℕ) → link now i j ≡ (link was i j || (link was i k && link was k j))) where
     parts : (i j : ℕ) → link now i j ≡ true → (link was i j ≡ true) ⊎ ((link was i k ≡ true) × (link was k j ≡ true))
-    parts i j q = elim (or_cases (link was i j) (link was i k && link was k j) (sym (l i j) ∙ q)) [ inl h ↦ inl h | inr h ↦ inr (and_parts (link was i k) (link was k j) h) ]
+    parts i j q = grind (arith, l i j)
 
     old : (i j : ℕ) → link was i j ≡ true → link now i j ≡ true
-    old i j q = l i j ∙ or_left (link was i j) (link was i k && link was k j) q
-
-    new : (i j : ℕ) → link was i k ≡ true → link was k j ≡ true → link now i j ≡ true
-    new i j p q = l i j ∙ or_right (link was i j) (link was i k && link was k j) (and_from (link was i k) (link was k j) p q)
-
-    below : (m i j : ℕ) → m < k → link now i m ≡ true → link now m j ≡ true → link now i j ≡ true
-    below m i j h p q = elim (parts i m p) [
-      | inl a ↦ elim (parts m j q) [ inl b ↦ old i j (t.closed m i j h a b) | inr b ↦ new i j (t.closed m i k h a b.0) b.1 ]
-      | inr a ↦ elim (parts m j q) [ inl b ↦ new i j a.0 (t.closed m k j h a.1 b) | inr b ↦ new i j a.0 b.1 ]
-    ]
-
-    to-k : (i : ℕ) → link now i k ≡ true → link was i k ≡ true
-    to-k i p = elim (parts i k p) [ inl a ↦ a | inr a ↦ a.0 ]
-
-    from-k : (j : ℕ) → link now k j ≡ true → link was k j ≡ true
-    from-k j q = elim (parts k j q) [ inl a ↦ a | inr a ↦ a.1 ]
+    old i j q = grind (arith, l i j)
 
     closes : (m i j : ℕ) → m < k + 1 → link now i m ≡ true → link now m j ≡ true → link now i j ≡ true
-    closes m i j h p q = by (cases_lt m k)
-      where
-        by : (m < k) ⊎ (k ≤ m) → link now i j ≡ true
-        by (inl lt) = below m i j lt p q
-        by (inr ge) =
-            let e : m ≡ k = omega arith in
-            new i j (to-k i (subst (λ (x : ℕ). link now i x ≡ true) e p)) (from-k j (subst (λ (x : ℕ). link now x j ≡ true) e q))
+    closes m i j h p q = grind (arith, l i m, l m j, l i j, l i k, l k j, t.closed m i j, t.closed m i k, t.closed m k j)
 
     pub through-next : Through es (k + 1) now
     through-next = record {

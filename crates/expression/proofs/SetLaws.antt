@@ -2,47 +2,24 @@
 use Rattle.std.proofs.Common.{◌≡◌, ℕ, zero, suc, ◌+◌, ◌*◌, ◌/◌, ◌%◌, ◌^◌, ◌<◌, ◌≤◌, Bool, true, false, cond, not, ◌&&◌, ◌||◌, eqb, ltb, ◌⊎◌, List, [], ◌∷◌, ◌++◌, length, get_or, take, drop, set, replicate, sym, refl, ap, ◌∙◌, inl, inr, add-one, arith}
 use lib.Bits.{bit_or}
 use Rattle.std.proofs.lemmas.Nat.{div_below}
-use Rattle.std.proofs.lemmas.List.{get_or-set_same, get_or-set_other, length-set, length-replicate, get_or-replicate, get_or_past, set_past, length-take-le, drop_more, get_or_at, set_at, append_assoc, append-nil, take_more, take_all, drop_all}
-use Rattle.std.proofs.lemmas.Bool.{cases_eq, cases_lt, eq-eqb, ne_eqb, eqb-true, lt-ltb, le-ltb, cond-true, cond-false, cases_order, and_parts, false≢true}
+use Rattle.std.proofs.lemmas.List.{length-replicate, get_or-replicate, get_or_past, set_past, length-take-le, drop_more, get_or_at, set_at, append_assoc, take_more, take_all, drop_all}
+use Rattle.std.proofs.lemmas.Grind.{common_steps}
+use Rattle.std.proofs.lemmas.Bool.{cases_lt, le-ltb}
 use Rattle.expression.specs.NumberSets.{bit, member, inserted, united, void, gathered, set_of, some_below, SetLaws}
 use Rattle.expression.proofs.Bits.{bit-or, bit-zero, bit-one, none-zero}
 
-or_swap : (a b : Bool) → (a || b) ≡ (b || a)
-or_swap true true = refl
-or_swap true false = refl
-or_swap false true = refl
-or_swap false false = refl
-
 same_rest : (n m : ℕ) → n / 64 ≡ m / 64 → eqb (n % 64) (m % 64) ≡ eqb n m
-same_rest n m e = by (cases_eq n m)
-  where
-    by : (n ≡ m) ⊎ (n ≡ m → ⊥) → eqb (n % 64) (m % 64) ≡ eqb n m
-    by (inl s) = eq-eqb _ _ (ap (λ (x : ℕ). x % 64) s) ∙ sym (eq-eqb n m s)
-    by (inr d) = ne_eqb _ _ (λ r. d (omega arith)) ∙ sym (ne_eqb n m d)
+same_rest n m e = grind arith
 
 pub member-inserted : (ws : List ℕ) (n m : ℕ) → n / 64 < length ws → member (inserted ws n) m ≡ (eqb n m || member ws m)
-member-inserted ws n m l = by (cases_eq (m / 64) (n / 64))
-  where
-    by : (m / 64 ≡ n / 64) ⊎ (m / 64 ≡ n / 64 → ⊥) → member (inserted ws n) m ≡ (eqb n m || member ws m)
-    by (inl e) =
-        ap (λ (k : ℕ). bit (get_or (inserted ws n) k 0) (m % 64)) e
-        ∙ ap (λ (w : ℕ). bit w (m % 64)) (get_or-set_same ws (n / 64) (bit_or (get_or ws (n / 64) 0) (2 ^ (n % 64))) 0 l)
-        ∙ bit-or (get_or ws (n / 64) 0) (2 ^ (n % 64)) (m % 64)
-        ∙ or_swap (bit (get_or ws (n / 64) 0) (m % 64)) (bit (2 ^ (n % 64)) (m % 64))
-        ∙ ap (λ (b : Bool). b || bit (get_or ws (n / 64) 0) (m % 64)) (bit-one (n % 64) (m % 64) ∙ same_rest n m (sym e))
-        ∙ ap (λ (k : ℕ). eqb n m || bit (get_or ws k 0) (m % 64)) (sym e)
-    by (inr d) =
-        ap (λ (w : ℕ). bit w (m % 64)) (get_or-set_other ws (n / 64) (m / 64) (bit_or (get_or ws (n / 64) 0) (2 ^ (n % 64))) 0 d)
-        ∙ ap (λ (b : Bool). b || member ws m) (sym (ne_eqb n m (λ s. d (ap (λ (x : ℕ). x / 64) (sym s)))))
+member-inserted ws n m l =
+    let new = bit-or (get_or ws (n / 64) 0) (2 ^ (n % 64)) (m % 64) in
+    grind (arith, common_steps, bit-one (n % 64) (m % 64), same_rest n m)
 
 pub length-gathered : (ws : List ℕ) (p : ℕ → Bool) (n : ℕ) → length (gathered ws p n) ≡ length ws
 unfolding gathered
 length-gathered ws p zero = refl
-length-gathered ws p (suc n) = by (p n) (length-gathered ws p n)
-  where
-    by : (b : Bool) → length (gathered ws p n) ≡ length ws → length (cond b (inserted (gathered ws p n) n) (gathered ws p n)) ≡ length ws
-    by true h = length-set (gathered ws p n) (n / 64) _ ∙ h
-    by false h = h
+length-gathered ws p (suc n) = grind (arith, common_steps, length-gathered ws p n)
 
 or_no : (a : Bool) → (a || false) ≡ a
 or_no true = refl
@@ -54,25 +31,7 @@ or_yes false = refl
 
 -- the numbers below n that pass, one more
 one_more : (p : ℕ → Bool) (n k : ℕ) (b : Bool) → p n ≡ b → (a : Bool) → (cond b (eqb n k) false || (a || (ltb k n && p k))) ≡ (a || (ltb k (suc n) && p k))
-one_more p n k b e a = by (cases_order k n) b e
-  where
-    by : (k ≡ n) ⊎ ((k < n) ⊎ (n < k)) → (b : Bool) → p n ≡ b → (cond b (eqb n k) false || (a || (ltb k n && p k))) ≡ (a || (ltb k (suc n) && p k))
-    by (inl s) true e =
-        let t : p k ≡ true = ap p s ∙ e in
-        ap (λ (x : Bool). x || (a || (ltb k n && p k))) (eq-eqb n k (sym s))
-        ∙ sym (ap (λ (x : Bool). a || (x && p k)) (lt-ltb k (suc n) (omega arith)) ∙ ap (λ (x : Bool). a || x) t ∙ or_yes a)
-    by (inl s) false e =
-        let t : p k ≡ false = ap p s ∙ e in
-        ap (λ (x : Bool). a || (x && p k)) (le-ltb k n (omega arith)) ∙ or_no a
-        ∙ sym (ap (λ (x : Bool). a || (x && p k)) (lt-ltb k (suc n) (omega arith)) ∙ ap (λ (x : Bool). a || x) t ∙ or_no a)
-    by (inr (inl l)) true e =
-        ap (λ (x : Bool). x || (a || (ltb k n && p k))) (ne_eqb n k (λ s. omega arith))
-        ∙ ap (λ (x : Bool). a || (x && p k)) (lt-ltb k n l ∙ sym (lt-ltb k (suc n) (omega arith)))
-    by (inr (inl l)) false e = ap (λ (x : Bool). a || (x && p k)) (lt-ltb k n l ∙ sym (lt-ltb k (suc n) (omega arith)))
-    by (inr (inr g)) true e =
-        ap (λ (x : Bool). x || (a || (ltb k n && p k))) (ne_eqb n k (λ s. omega arith))
-        ∙ ap (λ (x : Bool). a || (x && p k)) (le-ltb k n (omega arith) ∙ sym (le-ltb k (suc n) (omega arith)))
-    by (inr (inr g)) false e = ap (λ (x : Bool). a || (x && p k)) (le-ltb k n (omega arith) ∙ sym (le-ltb k (suc n) (omega arith)))
+one_more p n k b e a = grind arith
 
 fits_word : (ws : List ℕ) (p : ℕ → Bool) (n : ℕ) → n < 64 * length ws → n / 64 < length (gathered ws p n)
 fits_word ws p n l = omega (arith, length-gathered ws p n, div_below n 64 (length ws) (omega arith) (omega arith))
@@ -81,13 +40,8 @@ fits_word ws p n l = omega (arith, length-gathered ws p n, div_below n 64 (lengt
 pub member-gathered : (ws : List ℕ) (p : ℕ → Bool) (n k : ℕ) → n ≤ 64 * length ws → member (gathered ws p n) k ≡ (member ws k || (ltb k n && p k))
 unfolding gathered
 member-gathered ws p zero k l = sym (ap (λ (x : Bool). member ws k || (x && p k)) (le-ltb k 0 (omega arith)) ∙ or_no (member ws k))
-member-gathered ws p (suc n) k l = by (p n) refl (member-gathered ws p n k (omega arith))
-  where
-    by : (b : Bool) → p n ≡ b → member (gathered ws p n) k ≡ (member ws k || (ltb k n && p k)) → member (cond b (inserted (gathered ws p n) n) (gathered ws p n)) k ≡ (member ws k || (ltb k (suc n) && p k))
-    by true e h =
-        member-inserted (gathered ws p n) n k (fits_word ws p n (omega arith))
-        ∙ ap (λ (x : Bool). eqb n k || x) h ∙ one_more p n k true e (member ws k)
-    by false e h = h ∙ one_more p n k false e (member ws k)
+member-gathered ws p (suc n) k l =
+    grind (arith, member-gathered ws p n k (omega arith), member-inserted (gathered ws p n) n k (fits_word ws p n (omega arith)))
 
 get_or-none : (w i : ℕ) → get_or {A = ℕ} (replicate w 0) i 0 ≡ 0
 get_or-none w i = by (cases_lt i w)
@@ -107,8 +61,8 @@ member-set_of w p n k l =
 
 void-get_or : (ws : List ℕ) (i : ℕ) → void ws ≡ true → get_or ws i 0 ≡ 0
 void-get_or [] i h = refl
-void-get_or (w ∷ ws) zero h = eqb-true w 0 (and_parts (eqb w 0) (void ws) h).0
-void-get_or (w ∷ ws) (suc i) h = void-get_or ws i (and_parts (eqb w 0) (void ws) h).1
+void-get_or (w ∷ ws) zero h = grind arith
+void-get_or (w ∷ ws) (suc i) h = grind (arith, void-get_or ws i)
 
 -- a set of zeros has nothing
 pub void-member : (ws : List ℕ) (k : ℕ) → void ws ≡ true → member ws k ≡ false
@@ -119,23 +73,15 @@ void-none zero = refl
 void-none (suc w) = void-none w
 
 member-void : (ws : List ℕ) (k : ℕ) → member ws k ≡ true → void ws ≡ false
-member-void ws k h = by (void ws) refl
-  where
-    by : (b : Bool) → void ws ≡ b → b ≡ false
-    by true e = absurd (false≢true (sym (void-member ws k e) ∙ h))
-    by false e = refl
+member-void ws k h = grind (arith, void-member ws k)
 
 -- a set of the numbers below n that pass is empty exactly if none passes
 pub void-set_of : (w : ℕ) (p : ℕ → Bool) (n : ℕ) → n ≤ 64 * w → void (set_of w p n) ≡ not (some_below p n)
 unfolding gathered
 void-set_of w p zero l = void-none w
-void-set_of w p (suc n) l = by (p n) refl (void-set_of w p n (omega arith))
-  where
-    by : (b : Bool) → p n ≡ b → void (set_of w p n) ≡ not (some_below p n) → void (cond b (inserted (set_of w p n) n) (set_of w p n)) ≡ not (some_below p n || b)
-    by true e h =
-        member-void (inserted (set_of w p n) n) n (member-inserted (set_of w p n) n n (fits_word (replicate w 0) p n (omega (arith, length-replicate {A = ℕ} w 0))) ∙ ap (λ (x : Bool). x || member (set_of w p n) n) (eq-eqb n n refl))
-        ∙ sym (ap not (or_yes (some_below p n)))
-    by false e h = h ∙ sym (ap not (or_no (some_below p n)))
+void-set_of w p (suc n) l =
+    let new = member-inserted (set_of w p n) n n (fits_word (replicate w 0) p n (omega (arith, length-replicate {A = ℕ} w 0))) in
+    grind (arith, void-set_of w p n (omega arith), member-void (inserted (set_of w p n) n) n)
 
 -- the steps of a loop that gathers
 pub set_of-none : (w : ℕ) (p : ℕ → Bool) → replicate w 0 ≡ set_of w p 0
@@ -144,11 +90,11 @@ set_of-none w p = refl
 
 pub set_of-in : (w : ℕ) (p : ℕ → Bool) (n : ℕ) (s : List ℕ) → p n ≡ true → s ≡ set_of w p n → inserted s n ≡ set_of w p (n + 1)
 unfolding gathered
-set_of-in w p n s h e = ap (λ (x : List ℕ). inserted x n) e ∙ sym (ap (λ (k : ℕ). set_of w p k) (add-one n) ∙ cond-true (p n) _ _ h)
+set_of-in w p n s h e = rw add-one (grind (arith, h, e))
 
 pub set_of-out : (w : ℕ) (p : ℕ → Bool) (n : ℕ) (s : List ℕ) → p n ≡ false → s ≡ set_of w p n → s ≡ set_of w p (n + 1)
 unfolding gathered
-set_of-out w p n s h e = e ∙ sym (ap (λ (k : ℕ). set_of w p k) (add-one n) ∙ cond-false (p n) _ _ h)
+set_of-out w p n s h e = rw add-one (grind (arith, h, e))
 
 -- the steps of a loop that looks for one that passes
 pub some_more : (p : ℕ → Bool) (n : ℕ) → some_below p (n + 1) ≡ (some_below p n || p n)
@@ -156,15 +102,11 @@ some_more p n = ap (some_below p) (add-one n)
 
 pub some_at : (p : ℕ → Bool) (n k : ℕ) → k < n → p k ≡ true → some_below p n ≡ true
 some_at p zero k l h = absurd (omega arith)
-some_at p (suc n) k l h = by (cases_eq k n) (λ m. some_at p n k m h)
-  where
-    by : (k ≡ n) ⊎ (k ≡ n → ⊥) → (k < n → some_below p n ≡ true) → (some_below p n || p n) ≡ true
-    by (inl e) f = ap (λ (b : Bool). some_below p n || b) (ap p (sym e) ∙ h) ∙ or_yes (some_below p n)
-    by (inr d) f = ap (λ (b : Bool). b || p n) (f (omega (arith, d)))
+some_at p (suc n) k l h = grind (arith, some_at p n k)
 
 pub some_same : (p q : ℕ → Bool) (n : ℕ) → ((k : ℕ) → k < n → p k ≡ q k) → some_below p n ≡ some_below q n
 some_same p q zero h = refl
-some_same p q (suc n) h = ap (λ (b : Bool). b || p n) (some_same p q n (λ k l. h k (omega arith))) ∙ ap (λ (b : Bool). some_below q n || b) (h n (omega arith))
+some_same p q (suc n) h = grind (arith, h n, some_same p q n (λ k l. h k (omega arith)))
 
 -- a number that no word is for
 pub member-past : (ws : List ℕ) (n : ℕ) → 64 * length ws ≤ n → member ws n ≡ false
@@ -178,12 +120,8 @@ word-for : (ws : List ℕ) (n : ℕ) → n < 64 * length ws → n / 64 < length 
 word-for ws n l = div_below n 64 (length ws) (omega arith) (omega arith)
 
 -- what one insertion does, whatever the number
-pub member-insert : (ws : List ℕ) (n m : ℕ) → member (inserted ws n) m ≡ ((ltb n (64 * length ws) && eqb n m) || member ws m)
-member-insert ws n m = by (cases_lt n (64 * length ws))
-  where
-    by : (n < 64 * length ws) ⊎ (64 * length ws ≤ n) → member (inserted ws n) m ≡ ((ltb n (64 * length ws) && eqb n m) || member ws m)
-    by (inl l) = member-inserted ws n m (word-for ws n l) ∙ ap (λ (b : Bool). (b && eqb n m) || member ws m) (sym (lt-ltb n (64 * length ws) l))
-    by (inr g) = ap (λ (z : List ℕ). member z m) (inserted-past ws n g) ∙ ap (λ (b : Bool). (b && eqb n m) || member ws m) (sym (le-ltb n (64 * length ws) g))
+pub member_insert : (ws : List ℕ) (n m : ℕ) → member (inserted ws n) m ≡ ((ltb n (64 * length ws) && eqb n m) || member ws m)
+member_insert ws n m = grind (arith, member-inserted ws n m, inserted-past ws n, word-for ws n)
 
 -- a set with a word that is not 0 has a number
 pub word-member : (ws : List ℕ) (i : ℕ) → get_or ws i 0 < 2 ^ 64 → ((n : ℕ) → member ws n ≡ false) → get_or ws i 0 ≡ 0
@@ -224,8 +162,8 @@ united-more ws vs i now l e h =
 
 pub united-all : (ws vs : List ℕ) (i : ℕ) (now : List ℕ) → length ws ≤ i → now ≡ take i (united ws vs) ++ drop i ws → now ≡ united ws vs
 united-all ws vs i now l h =
-    h ∙ ap (λ (z : List ℕ). take i (united ws vs) ++ z) (drop_all i ws l) ∙ append-nil (take i (united ws vs))
-    ∙ take_all i (united ws vs) (omega (arith, length-united ws vs))
+    let n = length-united ws vs in
+    grind (arith, common_steps, take_all i (united ws vs), drop_all i ws l)
 
 pub set-laws : SetLaws
 set-laws = record {

@@ -1,25 +1,11 @@
 -- The test for a value in a name, against a start, the value and a rest.
-use Rattle.std.proofs.Common.{◌≡◌, ℕ, suc, Bool, true, eqb, List, [], ◌∷◌, ◌++◌, length, take, drop, Decides, sym, refl, ap, ◌∙◌, inl, inr, arith}
-use Rattle.std.proofs.lemmas.Slice.Eq.{bytes_eq-Decides}
-use Rattle.std.proofs.lemmas.List.{take-append-drop, take_at}
-use Rattle.std.proofs.lemmas.Bool.{or_cases, or_left, or_right, ne_eqb}
-use Rattle.expression.specs.declared.name_matcher.MatchKind.{MatchKind}
-use Rattle.expression.specs.declared.name_matcher.MatchKind.TheVariants.{Equal, Contains, Glob}
-use Rattle.expression.specs.Names.{StandsIn, Taken, begins, holds, is_taken}
-
-pub begins-rest : (v n : List ℕ) → begins v n ≡ true → n ≡ v ++ drop (length v) n
-begins-rest v n h =
-    let e = (bytes_eq-Decides v (take (length v) n)).0 h in
-    sym (take-append-drop (length v) n) ∙ ap (λ (z : List ℕ). z ++ drop (length v) n) (sym e)
+use Rattle.std.proofs.Common.{◌≡◌, ℕ, true, List, [], ◌∷◌, ◌++◌, length, drop, Decides, ap, ◌∙◌, inl, inr}
+use Rattle.std.proofs.lemmas.Bool.{or_cases, or_left, or_right}
+use Rattle.expression.specs.Fitting.{begins-rest, begins-whole}
+use Rattle.expression.specs.Names.{StandsIn, begins, holds}
 
 begins-there : (v n : List ℕ) → begins v n ≡ true → StandsIn v n
 begins-there v n h = ([], drop (length v) n, begins-rest v n h)
-
-begins-whole : (v rest : List ℕ) → begins v (v ++ rest) ≡ true
-begins-whole v rest = (bytes_eq-Decides v (take (length v) (v ++ rest))).1 (sym (take_at v rest (length v) refl))
-
-pub begins-front : (v n rest : List ℕ) → n ≡ v ++ rest → begins v n ≡ true
-begins-front v n rest e = ap (begins v) e ∙ begins-whole v rest
 
 later : (v n : List ℕ) (b : ℕ) → StandsIn v n → StandsIn v (b ∷ n)
 later v n b p = (b ∷ p.0, p.1, ap (λ (z : List ℕ). b ∷ z) p.2)
@@ -36,15 +22,5 @@ found_in : (v start rest : List ℕ) → holds v (start ++ (v ++ rest)) ≡ true
 found_in v [] rest = first v (v ++ rest) (begins-whole v rest)
 found_in v (b ∷ start) rest = or_right (begins v (b ∷ (start ++ (v ++ rest)))) (holds v (start ++ (v ++ rest))) (found_in v start rest)
 
-holds-decides : (v n : List ℕ) → Decides (holds v n) (StandsIn v n)
+pub holds-decides : (v n : List ℕ) → Decides (holds v n) (StandsIn v n)
 holds-decides v n = (held v n, λ p. ap (holds v) p.2 ∙ found_in v p.0 p.1)
-
-pub taken-decides : (glob : List ℕ → List ℕ → Bool) (k : MatchKind) (v n : List ℕ) → Decides (is_taken glob k v n) (Taken glob k v n)
-taken-decides glob Equal v n = bytes_eq-Decides v n
-taken-decides glob Contains v n = holds-decides v n
-taken-decides glob Glob v n = (λ e. e, λ e. e)
-
--- nothing but the empty value stands in the empty name
-pub holds-none : (v : List ℕ) → eqb (length v) 0 ≡ holds v []
-holds-none [] = refl
-holds-none (b ∷ v) = ne_eqb (suc (length v)) 0 (λ e. omega arith)

@@ -1,6 +1,6 @@
 -- How sets of packages are closed under chains of edges, step by step.
 use Rattle.std.specs.Prelude.{◌≡◌, ℕ, Bool, false, ◌&&◌, ◌||◌, List, [], ◌∷◌, ◌==◌, nat_lt}
-use Rattle.expression.specs.NumberSets.{size, member}
+use Rattle.expression.specs.NumberSets.{size}
 use Rattle.expression.specs.Oracles.{link}
 use Rattle.expression.specs.declared.number_set.NumberSet.{NumberSet}
 use Rattle.expression.specs.declared.oracle.Edge.{Edge}
@@ -22,17 +22,13 @@ abbrev pub directly : List Edge → ℕ → ℕ → Bool
 directly [] a b = false
 directly (e ∷ es) a b = edge_links e a b || directly es a b
 
--- one link more
-abbrev pub WithLink : List NumberSet → ℕ → ℕ → List NumberSet → Type 0
-WithLink was x y rows = (a b : ℕ) → link rows a b ≡ (link was a b || are x y a b)
+-- what one edge says besides
+abbrev pub WithEdge : List NumberSet → Edge → List NumberSet → Type 0
+WithEdge was e rows = (a b : ℕ) → link rows a b ≡ (link was a b || edge_links e a b)
 
 -- what the edges say without a chain, as sets
 abbrev pub Direct : List Edge → List NumberSet → Type 0
 Direct es rows = (a b : ℕ) → link rows a b ≡ directly es a b
-
--- the set of i, with the numbers of another set if it has k
-abbrev pub Merged : List NumberSet → ℕ → ℕ → NumberSet → List NumberSet → Type 0
-Merged was i k through rows = (a b : ℕ) → link rows a b ≡ (link was a b || (i == a && (link was i k && member through.words b)))
 
 -- a has also what k has, if it has k
 abbrev pub Joined : List NumberSet → ℕ → List NumberSet → Type 0

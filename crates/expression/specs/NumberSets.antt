@@ -1,5 +1,6 @@
 -- Sets of numbers as words of 64 bits, however many words: number n is bit n % 64 of word n / 64.
-use Rattle.std.specs.Prelude.{◌≡◌, ℕ, zero, suc, ◌*◌, ◌/◌, ◌%◌, ◌^◌, ◌<◌, ◌≤◌, Bool, true, false, cond, not, ◌&&◌, ◌||◌, List, [], ◌∷◌, length, replicate, ◌==◌, bit_or, nat_lt, slice_index, slice_set}
+use Rattle.std.specs.Prelude.{◌≡◌, ℕ, zero, suc, ◌*◌, ◌/◌, ◌%◌, ◌^◌, ◌<◌, ◌≤◌, Bool, false, cond, not, ◌&&◌, ◌||◌, List, [], ◌∷◌, length, replicate, ◌==◌, bit_or, nat_lt, slice_index, slice_set}
+use Rattle.std.specs.List.{list_all}
 
 -- how many words a set of the program has; no law below depends on it
 abbrev pub width : ℕ
@@ -33,8 +34,7 @@ no_numbers w = replicate w 0
 
 -- whether each word is 0
 abbrev pub void : List ℕ → Bool
-void [] = true
-void (w ∷ ws) = w == 0 && void ws
+void = list_all (λ w. w == 0)
 
 -- ws, and of the numbers below n those that pass p
 unfoldable pub gathered : List ℕ → (ℕ → Bool) → ℕ → List ℕ

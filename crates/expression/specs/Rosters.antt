@@ -37,11 +37,3 @@ prefix_fits text q row = leads q.name (part_of text row.prefix)
 abbrev pub first_fit : {R : Type 0} → (R → Bool) → (R → ℕ) → List R → ℕ
 first_fit fits number [] = 0
 first_fit fits number (row ∷ rows) = cond (fits row) (number row) (first_fit fits number rows)
-
--- the group of a test by rows for single tests
-abbrev pub test_group : List ℕ → List TestRow → Test → ℕ
-test_group text rows q = first_fit (row_fits text q) (λ row. row.group) rows
-
--- the group of a test by rows for prefixes
-abbrev pub prefix_group : List ℕ → List PrefixRow → Test → ℕ
-prefix_group text rows q = first_fit (prefix_fits text q) (λ row. row.group) rows

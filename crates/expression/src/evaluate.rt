@@ -2,10 +2,9 @@
 // SPDX-License-Identifier: MIT OR Apache-2.0
 
 // One evaluator for every logic.
-ghost use Rattle.std.specs.Prelude.{◌≡◌, ◌≤◌, length, IfSome};
+ghost use Rattle.std.specs.Prelude.{◌≡◌, ◌≤◌, [], ◌∷◌, length, MatchOption};
 ghost use Rattle.std.specs.Option.{option_map};
 ghost use Rattle.expression.specs.Evaluation.{Evaluation};
-ghost use Rattle.expression.specs.Stack.{acts, tops};
 
 use crate::logic::Logic;
 use crate::nodes::Node;
@@ -18,50 +17,79 @@ pub trait Leaves<T, L> {
         ensures { result ≡ shows self.now leaf };
 }
 
-// Carries one node out on the n lowest places of the stack, and answers how many are then in use; none if a value or a place lacks.
-fn step<T: Copy, L: Logic + Copy, C: Leaves<T, L>>(
-    node: Node<T>,
-    leaves: &C,
-    stack: &mut [L],
-    n: usize,
-) -> Option<usize>
-    requires { n ≤ length stack.old }
-    ensures stack { option_map (tops stack.new) result ≡ acts L.ops (C.shows leaves.now) (length stack.old) node (tops stack.old n) }
-    ensures bound { IfSome result (λ m. m ≤ length stack.new) }
-{
-    match node {
-        Node::Leaf(leaf) => {
-            if n >= stack.len() {
-                return None;
-            }
-            stack[n] = leaves.value(leaf);
-            Some(n + 1)
+// A slice that the caller lends as a stack: its first `used` places hold the values, the top one last.
+#[derive(Drop)]
+struct Stack<'a, L> {
+    places: &'a mut [L],
+    used: usize,
+    ghost within: { used ≤ length places.now },
+}
+
+impl<L: Copy> Stack<'_, L> {
+    ghost use Rattle.expression.specs.Stack.{room, held, pushed, acts, runs};
+
+    // Puts a value on top. None if no place is left.
+    fn push(&mut self, value: L) -> Option<()>
+        ensures room { room self.new ≡ room self.old }
+        ensures values { option_map (λ _. held self.new) result ≡ pushed (room self.old) value (held self.old) }
+    {
+        if self.used == self.places.len() {
+            return None;
         }
-        Node::Not => {
-            if n < 1 {
-                return None;
+        self.places[self.used] = value;
+        self.used += 1;
+        Some(())
+    }
+
+    // Takes the top value away. None if there is no value.
+    fn pop(&mut self) -> Option<L>
+        ensures room { room self.new ≡ room self.old }
+        ensures values { MatchOption result (held self.old ≡ []) (λ value. held self.old ≡ value ∷ held self.new) }
+    {
+        let top = self.used.checked_sub(1)?;
+        self.used = top;
+        Some(self.places[top])
+    }
+
+    // Carries one node out. None if a value or a place lacks.
+    fn step<T: Copy, C: Leaves<T, L>>(&mut self, node: Node<T>, leaves: &C) -> Option<()>
+    where
+        L: Logic,
+        ensures room { room self.new ≡ room self.old }
+        ensures values { option_map (λ _. held self.new) result ≡ acts L.ops (C.shows leaves.now) (room self.old) node (held self.old) }
+    {
+        match node {
+            Node::Leaf(leaf) => self.push(leaves.value(leaf)),
+            Node::Not => {
+                let a = self.pop()?;
+                self.push(a.logic_not())
             }
-            let a = stack[n - 1];
-            stack[n - 1] = a.logic_not();
-            Some(n)
+            Node::And => {
+                let b = self.pop()?;
+                let a = self.pop()?;
+                self.push(a.logic_and(b))
+            }
+            Node::Or => {
+                let b = self.pop()?;
+                let a = self.pop()?;
+                self.push(a.logic_or(b))
+            }
         }
-        Node::And => {
-            if n < 2 {
-                return None;
-            }
-            let a = stack[n - 2];
-            let b = stack[n - 1];
-            stack[n - 2] = a.logic_and(b);
-            Some(n - 1)
+    }
+
+    // Carries node after node out. The value that is left, if there is just one.
+    fn run<T: Copy, C: Leaves<T, L>>(&mut self, nodes: &[Node<T>], leaves: &C) -> Option<L>
+    where
+        L: Logic,
+        ensures { result ≡ runs L.ops (C.shows leaves.now) (room self.old) nodes.now (held self.old) }
+    {
+        for node in nodes {
+            self.step(*node, leaves)?;
         }
-        Node::Or => {
-            if n < 2 {
-                return None;
-            }
-            let a = stack[n - 2];
-            let b = stack[n - 1];
-            stack[n - 2] = a.logic_or(b);
-            Some(n - 1)
+        let value = self.pop()?;
+        match self.pop() {
+            None => Some(value),
+            Some(_) => None,
         }
     }
 }
@@ -74,9 +102,9 @@ pub fn evaluate<T: Copy, L: Logic + Copy, C: Leaves<T, L>>(
 ) -> Option<L>
     ensures { Evaluation L.ops L.fits (C.shows leaves.now) nodes.now (length stack.old) result }
 {
-    let mut n = 0;
-    for node in nodes {
-        n = step(*node, leaves, stack, n)?;
-    }
-    if n == 1 { Some(stack[0]) } else { None }
+    let mut stack = Stack {
+        places: stack,
+        used: 0,
+    };
+    stack.run(nodes, leaves)
 }

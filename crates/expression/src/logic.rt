@@ -97,9 +97,6 @@ impl Logic for Option<bool> {
     }
 
     fn logic_not(self) -> Option<bool> {
-        match self {
-            Some(b) => Some(!b),
-            None => None,
-        }
+        self.map(|b| !b)
     }
 }

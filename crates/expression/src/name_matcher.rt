@@ -3,8 +3,7 @@
 
 // Which names a value takes: those equal to it, those that contain it, or those that match it as a glob.
 ghost use Rattle.std.specs.Prelude.{◌≡◌, Decides};
-ghost use Rattle.std.specs.Str.{bytes_eq};
-ghost use Rattle.expression.specs.Names.{begins, holds, is_taken, Taken};
+ghost use Rattle.expression.specs.Names.{holds, is_taken, Taken};
 
 use glob::matcher::Matcher;
 
@@ -16,27 +15,16 @@ pub enum MatchKind {
     Glob,
 }
 
-fn same_bytes(value: &[u8], name: &[u8]) -> bool
-    ensures { result ≡ bytes_eq value.now name.now }
-{
-    value == name
-}
-
-// Whether the name begins with the value.
-pub(crate) fn begins_with(value: &[u8], name: &[u8]) -> bool
-    ensures { result ≡ begins value.now name.now }
-{
-    name.starts_with(value)
-}
-
 // Whether the value stands somewhere in the name.
 fn stands_in(value: &[u8], name: &[u8]) -> bool
     ensures { result ≡ holds value.now name.now }
 {
-    for start in 0..name.len() {
-        if begins_with(value, &name[start..]) {
+    let mut rest = name;
+    while let [_, after @ ..] = rest {
+        if rest.starts_with(value) {
             return true;
         }
+        rest = after;
     }
     value.is_empty()
 }
@@ -48,7 +36,7 @@ impl MatchKind {
         ensures meaning { Decides result (Taken (M.matches matcher.now) self value.now name.now) }
     {
         match self {
-            MatchKind::Equal => same_bytes(value, name),
+            MatchKind::Equal => value == name,
             MatchKind::Contains => stands_in(value, name),
             MatchKind::Glob => matcher.is_match(value, name),
         }

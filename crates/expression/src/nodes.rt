@@ -3,7 +3,7 @@
 
 // A filter as nodes in postfix order: the operands first, then the operator.
 
-#[derive(Clone, Copy)]
+#[derive(Clone, Copy, PartialEq, Eq, Debug)]
 pub enum Node<T> {
     Leaf(T),
     Not,

@@ -12,7 +12,8 @@ const WORDS: usize = 1;
 pub const SIZE: usize = 64 * WORDS;
 
 // A set of numbers below 64.
-#[derive(Clone, Copy)]
+// Clauses name its words: a model as the list of the words would read no plainer, and as tests on numbers no two sets compare by `≡`.
+#[derive(Clone, Copy, PartialEq, Eq, Debug, Default)]
 pub struct NumberSet {
     words: [u64; WORDS],
 }
@@ -42,12 +43,13 @@ impl NumberSet {
         ensures words { self.new.words ≡ united self.old.words other.now.words }
         ensures members { (n : ℕ) → member self.new.words n ≡ (member self.old.words n || member other.now.words n) }
     {
-        for i in 0..WORDS {
-            self.words[i] |= other.words[i];
+        for (i, word) in other.words.iter().enumerate() {
+            self.words[i] |= word;
         }
     }
 
     // Whether the set has the number. One that is not below 64 is in no set.
+    #[tactic(auto, unfolding(crate::specs::NumberSets::bit))]
     pub fn contains(&self, n: usize) -> bool
         ensures value { result ≡ member self.now.words n }
         ensures outside { size ≤ n → result ≡ false }
@@ -60,8 +62,9 @@ impl NumberSet {
         ensures value { result ≡ void self.now.words }
         ensures members { Decides result ((n : ℕ) → member self.now.words n ≡ false) }
     {
-        for w in &self.words {
-            if *w != 0 {
+        // A loop, since after `all` no fact says that a word has 64 bits, which the clause `members` rests on.
+        for word in &self.words {
+            if *word != 0 {
                 return false;
             }
         }

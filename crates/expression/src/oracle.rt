@@ -2,11 +2,11 @@
 // SPDX-License-Identifier: MIT OR Apache-2.0
 
 // Which package depends on which: oracles take the place of a package graph.
-ghost use Rattle.std.specs.Prelude.{◌≡◌, ℕ, ◌<◌, Bool, true};
-ghost use Rattle.expression.specs.NumberSets.{size};
+ghost use Rattle.std.specs.Prelude.{◌≡◌, ℕ, ◌<◌, Bool, true, ◌&&◌, ◌||◌};
+ghost use Rattle.expression.specs.NumberSets.{size, member};
 ghost use Rattle.expression.specs.Dependencies.{Known};
-ghost use Rattle.expression.specs.Oracles.{link, reachable, Closure, table_depends};
-ghost use Rattle.expression.specs.Closing.{WithLink, Direct, Merged, Joined};
+ghost use Rattle.expression.specs.Oracles.{reachable, Closure, table_depends};
+ghost use Rattle.expression.specs.Closing.{WithEdge, Direct, Joined};
 
 use crate::number_set::{NumberSet, SIZE};
 
@@ -19,65 +19,23 @@ pub trait DependencyOracle {
 }
 
 // A package and one that it depends on directly.
-#[derive(Clone, Copy)]
+#[derive(Clone, Copy, PartialEq, Eq, Debug)]
 pub struct Edge {
     pub from: usize,
     pub to: usize,
 }
 
-fn link_to(rows: &mut [NumberSet; SIZE], a: usize, b: usize)
-    requires { (a < size) × (b < size) }
-    ensures { WithLink rows.old a b rows.new }
+// A set that has k takes what the set of k has.
+fn join(set: &mut NumberSet, k: usize, through: &NumberSet)
+    ensures { (n : ℕ) → member set.new.words n ≡ (member set.old.words n || (member set.old.words k && member through.now.words n)) }
 {
-    rows[a].insert(b);
-}
-
-// The edges without a chain, and each of their packages with itself. An edge with a package that is not below 64 is skipped.
-fn direct(edges: &[Edge]) -> [NumberSet; SIZE]
-    ensures { Direct edges.now result }
-{
-    let none = NumberSet::new();
-    let mut rows = [none; SIZE];
-    for edge in edges {
-        let Edge { from, to } = *edge;
-        if from < SIZE && to < SIZE {
-            link_to(&mut rows, from, from);
-            link_to(&mut rows, from, to);
-            link_to(&mut rows, to, to);
-        }
+    if set.contains(k) {
+        set.unite(through);
     }
-    rows
-}
-
-fn merge(rows: &mut [NumberSet; SIZE], i: usize, k: usize, through: &NumberSet)
-    requires { i < size }
-    ensures { Merged rows.old i k through.now rows.new }
-{
-    if rows[i].contains(k) {
-        rows[i].unite(through);
-    }
-}
-
-// Each set that has k takes what the set of k has.
-fn join_through(rows: &mut [NumberSet; SIZE], k: usize)
-    requires { k < size }
-    ensures { Joined rows.old k rows.new }
-{
-    let through = rows[k];
-    for i in 0..SIZE {
-        merge(rows, i, k, &through);
-    }
-}
-
-// Whether the set of a has b.
-fn linked(rows: &[NumberSet; SIZE], a: usize, b: usize) -> bool
-    ensures { result ≡ link rows.now a b }
-{
-    a < SIZE && rows[a].contains(b)
 }
 
 // What is reached over direct edges.
-#[derive(Clone, Copy)]
+#[derive(Clone, Copy, PartialEq, Eq, Debug)]
 pub struct Reachability {
     rows: [NumberSet; SIZE],
 }
@@ -88,11 +46,47 @@ impl Reachability {
         ensures closure { Closure edges.now result }
         ensures known { (a b : ℕ) → reachable result a b ≡ true → Known edges.now a × Known edges.now b }
     {
-        let mut rows = direct(edges);
+        let mut reached = Reachability::direct(edges);
         for k in 0..SIZE {
-            join_through(&mut rows, k);
+            reached.join_through(k);
         }
-        Reachability { rows }
+        reached
+    }
+
+    // The edges without a chain, and each of their packages with itself.
+    fn direct(edges: &[Edge]) -> Self
+        ensures { Direct edges.now result.rows }
+    {
+        let mut reached = Reachability {
+            rows: [NumberSet::new(); SIZE],
+        };
+        for edge in edges {
+            reached.add(*edge);
+        }
+        reached
+    }
+
+    // Adds what one edge says. An edge with a package that is not below 64 is skipped.
+    fn add(&mut self, edge: Edge)
+        ensures { WithEdge self.old.rows edge self.new.rows }
+    {
+        let Edge { from, to } = edge;
+        if from < SIZE && to < SIZE {
+            self.rows[from].insert(from);
+            self.rows[from].insert(to);
+            self.rows[to].insert(to);
+        }
+    }
+
+    // Each set that has k takes what the set of k has.
+    fn join_through(&mut self, k: usize)
+        requires { k < size }
+        ensures { Joined self.old.rows k self.new.rows }
+    {
+        let through = self.rows[k];
+        for row in &mut self.rows {
+            join(row, k, &through);
+        }
     }
 }
 
@@ -100,7 +94,7 @@ impl DependencyOracle for Reachability {
     ghost depends = { reachable };
 
     fn depends_on(&self, a: usize, b: usize) -> bool {
-        linked(&self.rows, a, b)
+        self.rows.get(a).is_some_and(|row| row.contains(b))
     }
 }
 
@@ -108,7 +102,7 @@ impl DependencyOracle for Reachability {
 const ROW_BITS: usize = 64;
 
 // A table of bits: bit b of row a says that a depends on b. Rows past the first 64 are not used, and a number without a row is unknown.
-#[derive(Clone, Copy)]
+#[derive(Clone, Copy, PartialEq, Eq, Debug)]
 pub struct BitTable<'a> {
     pub rows: &'a [u64],
 }
@@ -116,6 +110,7 @@ pub struct BitTable<'a> {
 impl DependencyOracle for BitTable<'_> {
     ghost depends = { λ s. table_depends s.rows.now };
 
+    #[tactic(auto, unfolding(crate::specs::NumberSets::bit))]
     fn depends_on(&self, a: usize, b: usize) -> bool {
         let known = self.rows.len().min(ROW_BITS);
         a < known && b < known && (self.rows[a] >> b) % 2 == 1

@@ -11,7 +11,7 @@ pub enum BuildPlatform {
 }
 
 // A binary: its package by number, its id, its name, its kind and its platform.
-#[derive(Clone, Copy)]
+#[derive(Clone, Copy, PartialEq, Eq, Debug)]
 pub struct BinaryQuery<'a> {
     pub package: usize,
     pub binary_id: &'a [u8],
@@ -21,7 +21,7 @@ pub struct BinaryQuery<'a> {
 }
 
 // A test: its binary and its name.
-#[derive(Clone, Copy)]
+#[derive(Clone, Copy, PartialEq, Eq, Debug)]
 pub struct TestQuery<'a> {
     pub binary: BinaryQuery<'a>,
     pub test_name: &'a [u8],

@@ -2,11 +2,11 @@
 // SPDX-License-Identifier: MIT OR Apache-2.0
 
 // Which group a test is in, by number: rosters take the place of a lookup of groups by name.
-ghost use Rattle.std.specs.Prelude.{◌≡◌, ℕ};
+ghost use Rattle.std.specs.Prelude.{◌≡◌, ℕ, Bool, List, Decides};
 ghost use Rattle.expression.specs.Queries.{Test, test_of};
-ghost use Rattle.expression.specs.Rosters.{row_fits, prefix_fits, test_group, prefix_group, RowFits, PrefixFits, FirstDecides};
+ghost use Rattle.expression.specs.Fitting.{row_decides, prefix_decides};
+ghost use Rattle.expression.specs.Rosters.{row_fits, prefix_fits, first_fit, RowFits, PrefixFits, FirstDecides};
 
-use crate::name_matcher::begins_with;
 use crate::queries::TestQuery;
 use glob::place::Place;
 
@@ -18,7 +18,46 @@ pub trait Roster {
         ensures { result ≡ groups self.now (test_of query.now) };
 }
 
-// The group of the test of that name in the binary of that id; both names are places in a text.
+// A row of a roster: which tests it fits, and the number of their group. Names in it are places in a text.
+pub trait Row {
+    ghost suits: { List ℕ → Test → Self → Bool };
+
+    ghost Suits: { List ℕ → Test → Self → Type 0 };
+
+    ghost number: { Self → ℕ };
+
+    fn fits(&self, text: &[u8], query: &TestQuery<'_>) -> bool
+        ensures { result ≡ suits text.now (test_of query.now) self.now };
+
+    fn group(&self) -> usize
+        ensures { result ≡ number self.now };
+
+    // The test says which tests the row fits.
+    ghost decided: { (text : List ℕ) (test : Test) (row : Self) → Decides (suits text test row) (Suits text test row) };
+}
+
+// Rows in their order. The first row that fits decides; a test that no row fits is in group 0.
+#[derive(Clone, Copy)]
+pub struct Rows<'a, R> {
+    pub text: &'a [u8],
+    pub rows: &'a [R],
+}
+
+impl<R: Row> Roster for Rows<'_, R> {
+    ghost groups = { λ s test. first_fit (R.suits s.text.now test) R.number s.rows.now };
+
+    fn group(&self, query: &TestQuery<'_>) -> usize
+        ensures value { result ≡ first_fit (R.suits self.now.text.now (test_of query.now)) R.number self.now.rows.now }
+        ensures first { FirstDecides (R.Suits self.now.text.now (test_of query.now)) R.number self.now.rows.now result }
+    {
+        self.rows
+            .iter()
+            .find(|row| row.fits(self.text, query))
+            .map_or(0, |row| row.group())
+    }
+}
+
+// The group of the test of that name in the binary of that id.
 #[derive(Clone, Copy)]
 pub struct TestRow {
     pub binary_id: Place,
@@ -26,70 +65,54 @@ pub struct TestRow {
     pub group: usize,
 }
 
-// Rows for single tests. The first row that fits decides; a test that no row fits is in group 0.
-#[derive(Clone, Copy)]
-pub struct TestRoster<'a> {
-    pub text: &'a [u8],
-    pub rows: &'a [TestRow],
-}
+impl Row for TestRow {
+    ghost suits = { row_fits };
 
-fn row_fits(text: &[u8], row: TestRow, query: &TestQuery<'_>) -> bool
-    ensures { result ≡ row_fits text.now (test_of query.now) row }
-{
-    row.binary_id.holds(text, query.binary.binary_id) && row.test_name.holds(text, query.test_name)
-}
+    ghost Suits = { RowFits };
 
-impl Roster for TestRoster<'_> {
-    ghost groups = { λ s. test_group s.text.now s.rows.now };
+    ghost number = { λ row. row.group };
 
-    fn group(&self, query: &TestQuery<'_>) -> usize
-        ensures value { result ≡ test_group self.now.text.now self.now.rows.now (test_of query.now) }
-        ensures first { FirstDecides (RowFits self.now.text.now (test_of query.now)) (λ row. row.group) self.now.rows.now result }
-    {
-        for row in self.rows {
-            if row_fits(self.text, *row, query) {
-                return row.group;
-            }
-        }
-        0
+    ghost decided = { row_decides };
+
+    fn fits(&self, text: &[u8], query: &TestQuery<'_>) -> bool {
+        self.binary_id.holds(text, query.binary.binary_id)
+            && self.test_name.holds(text, query.test_name)
+    }
+
+    fn group(&self) -> usize {
+        self.group
     }
 }
 
-// The group of the tests whose name begins with the prefix, which is a place in a text.
+// Rows for single tests.
+pub type TestRoster<'a> = Rows<'a, TestRow>;
+
+// The group of the tests whose name begins with the prefix.
 #[derive(Clone, Copy)]
 pub struct PrefixRow {
     pub prefix: Place,
     pub group: usize,
 }
 
-// Rows for prefixes of test names. The first row that fits decides; a test that no row fits is in group 0.
-#[derive(Clone, Copy)]
-pub struct PrefixRoster<'a> {
-    pub text: &'a [u8],
-    pub rows: &'a [PrefixRow],
-}
+impl Row for PrefixRow {
+    ghost suits = { prefix_fits };
 
-fn prefix_fits(text: &[u8], row: PrefixRow, query: &TestQuery<'_>) -> bool
-    ensures { result ≡ prefix_fits text.now (test_of query.now) row }
-{
-    match row.prefix.of(text) {
-        Some(prefix) => begins_with(prefix, query.test_name),
-        None => false,
+    ghost Suits = { PrefixFits };
+
+    ghost number = { λ row. row.group };
+
+    ghost decided = { prefix_decides };
+
+    fn fits(&self, text: &[u8], query: &TestQuery<'_>) -> bool {
+        self.prefix
+            .of(text)
+            .is_some_and(|prefix| query.test_name.starts_with(prefix))
+    }
+
+    fn group(&self) -> usize {
+        self.group
     }
 }
 
-impl Roster for PrefixRoster<'_> {
-    ghost groups = { λ s. prefix_group s.text.now s.rows.now };
-
-    fn group(&self, query: &TestQuery<'_>) -> usize
-        ensures value { result ≡ prefix_group self.now.text.now self.now.rows.now (test_of query.now) }
-        ensures first { FirstDecides (PrefixFits self.now.text.now (test_of query.now)) (λ row. row.group) self.now.rows.now result }
-    {
-        for prefix in self.rows {
-            if prefix_fits(self.text, *prefix, query) {
-                return prefix.group;
-            }
-        }
-        0
-    }
-}
+// Rows for prefixes of test names.
+pub type PrefixRoster<'a> = Rows<'a, PrefixRow>;

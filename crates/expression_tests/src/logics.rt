@@ -8,27 +8,33 @@ use expression::nodes::Node;
 fn kleene_tables(rt: HostRuntime) {
     let yes = Some(true);
     let no = Some(false);
-    let values = [yes, no, None];
-    let and = [yes, no, None, no, no, no, None, no, None];
-    let or = [yes, yes, yes, yes, no, None, yes, None, None];
-    for i in 0..3 {
-        for j in 0..3 {
-            assert!(rt; values[i].logic_and(values[j]) == and[3 * i + j]);
-            assert!(rt; values[i].logic_or(values[j]) == or[3 * i + j]);
-        }
+    // Two operands, then what `and` and `or` make of them.
+    let table = [
+        (yes, yes, yes, yes),
+        (yes, no, no, yes),
+        (yes, None, None, yes),
+        (no, yes, no, yes),
+        (no, no, no, no),
+        (no, None, no, None),
+        (None, yes, None, yes),
+        (None, no, no, None),
+        (None, None, None, None),
+    ];
+    for (a, b, both, either) in table {
+        assert_eq!(rt; a.logic_and(b), both);
+        assert_eq!(rt; a.logic_or(b), either);
     }
-    assert!(rt; yes.logic_not() == no && no.logic_not() == yes);
+    assert_eq!(rt; yes.logic_not(), no);
+    assert_eq!(rt; no.logic_not(), yes);
     let unknown: Option<bool> = None;
-    assert!(rt; unknown.logic_not().is_none());
+    assert_eq!(rt; unknown.logic_not(), None);
 }
 
 // 96 leaves and then 95 operators: every value waits.
 #[test]
 fn all_values_wait(rt: HostRuntime) {
     let mut nodes = [Node::Leaf(true); 191];
-    for i in 96..191 {
-        nodes[i] = Node::And;
-    }
+    nodes[96..].fill(Node::And);
     let mut stack = [false; 96];
     assert_eq!(rt; evaluate(&nodes, &Values, &mut stack), Some(true));
     let mut short = [false; 95];
@@ -42,8 +48,8 @@ fn all_values_wait(rt: HostRuntime) {
 fn two_values_wait(rt: HostRuntime) {
     let mut nodes = [Node::Or; 191];
     nodes[0] = Node::Leaf(Some(false));
-    for i in 0..95 {
-        nodes[2 * i + 1] = Node::Leaf(None);
+    for leaf in nodes[1..].iter_mut().step_by(2) {
+        *leaf = Node::Leaf(None);
     }
     let mut stack = [None; 2];
     assert_eq!(rt; evaluate(&nodes, &Values, &mut stack), Some(None));

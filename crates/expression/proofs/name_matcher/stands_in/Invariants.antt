@@ -1,6 +1,9 @@
-use Rattle.std.proofs.Common.{◌≡◌, drop}
+use Rattle.std.proofs.Common.{◌≡◌, length}
 use Rattle.expression.specs.Names.{holds}
 use Rattle.expression.proofs.name_matcher.stands_in.Given as goal
 
-abbrev pub invariant-loop-start : goal.invariant-loop-start
-invariant-loop-start l = holds l.value (drop l.start l.name) ≡ holds l.value l.name
+abbrev pub invariant-loop-rest : goal.invariant-loop-rest
+invariant-loop-rest l = holds l.value l.rest ≡ holds l.value l.name
+
+abbrev pub decreases-loop-rest : goal.decreases-loop-rest
+decreases-loop-rest l = length l.rest
