@@ -1,5 +1,5 @@
 -- Which word of a table a text begins with.
-use Rattle.std.proofs.Common.{◌≡◌, ℕ, ◌+◌, ◌-◌, ◌<◌, ◌≤◌, Bool, true, false, cond, not, ◌&&◌, eqb, ltb, List, [], ◌∷◌, ◌++◌, map, length, get_or, take, drop, Some, None, Option, MatchOption, Bor, IfSome, sym, refl, ap, ◌∙◌, inl, inr, add-zero, arith}
+use Rattle.std.proofs.Common.{◌≡◌, ℕ, ◌+◌, ◌-◌, ◌<◌, ◌≤◌, Bool, true, false, cond, not, ◌&&◌, eqb, ltb, List, [], ◌∷◌, ◌++◌, map, length, get_or, take, drop, Some, None, Option, MatchOption, Bor, sym, refl, ap, ◌∙◌, inl, inr, add-zero, arith}
 use Rattle.std.specs.List.{find, list_all}
 use Rattle.std.specs.Option.{option_map}
 use Rattle.std.specs.Cmp.Lexicographic.{pointwise}
@@ -140,9 +140,9 @@ module _ (t : List ℕ) (p : ℕ) where
 
   at-rest : (b : ℕ) → is_at (take (length t - p) (drop p t)) 0 b ≡ is_at t p b
   at-rest b = ap (λ s. is_at s 0 b) (take_rest t p) ∙ elim (cases_lt p (length t)) [
-      | inl l ↦ rw (lt-ltb 0 (length (drop p t)) (omega (arith, length-drop p t)), get_or-drop p t 0 0, add-zero p, lt-ltb p (length t) l) refl
-      | inr g ↦ rw (le-ltb p (length t) g, drop_all p t g) refl
-    ]
+    | inl l ↦ rw (lt-ltb 0 (length (drop p t)) (omega (arith, length-drop p t)), get_or-drop p t 0 0, add-zero p, lt-ltb p (length t) l) refl
+    | inr g ↦ rw (le-ltb p (length t) g, drop_all p t g) refl
+  ]
 
   pub mark-rest : mark_at (take (length t - p) (drop p t)) 0 ≡ mark_at t p
   unfolding mark_at

@@ -3,7 +3,7 @@ use Rattle.std.proofs.Common.{◌≡◌, ◌==◌, ℕ, Bool, true, false, cond,
 use lib.Utf8.{encode, encodes, scalar, scalars}
 use Rattle.std.specs.Char.{is_whitespace as white, is_not_whitespace}
 use Rattle.std.specs.Str.{IsUtf8, NonePass, chars, trim, trim_start, trim_end, skip_leading_whitespace, drop_trailing_whitespace}
-use Rattle.std.proofs.lemmas.Str.{NoCharPasses-append, chars-encodes, chars-append, encodes-append, IsUtf8-append, IsUtf8-from_ascii}
+use Rattle.std.proofs.lemmas.Str.{NoCharPasses-append, chars-encodes, encodes-append, IsUtf8-append}
 use Rattle.std.proofs.lemmas.List.{take-append-drop, nil_from_length}
 use Rattle.std.proofs.lemmas.Bool.{cases_eq, eq-eqb, ne_eqb, and_from, and_parts, not-false}
 use Rattle.std.proofs.lemmas.Bool.Decides.{nat_tests}
@@ -74,12 +74,12 @@ pub white-by : {Q : Bor (List ℕ) → Type 0} (s : List ℕ) (a : Bool) (r : Op
     MatchOption r (¬ IsUtf8 s) (λ t. IsTrimResult s t.now × (t.now ≡ trim s)) → MatchOption r (a ≡ false) Q → a ≡ (white_end s 0 == length s)
 white-by s a None f h q = q ∙ sym (ne_eqb (white_end s 0) (length s) (λ e. h (white-utf8 s (white-sound s e))))
 white-by s a (Some t) f h q = f t q ∙ elim (cases_eq (length t.now) 0) [
-    | inl z ↦
+  | inl z ↦
       let a = around s t.now h.0 in
       let n : White (a.front ++ (t.now ++ a.back)) = NoCharPasses-append is_not_whitespace a.front (t.now ++ a.back) a.white_front (subst (λ l. White (l ++ a.back)) (sym (nil_from_length t.now z)) a.white_back) in
       eq-eqb (length t.now) 0 z ∙ sym (eq-eqb (white_end s 0) (length s) (white-whole s (subst White (sym a.whole) n)))
-    | inr ne ↦ ne_eqb (length t.now) 0 ne ∙ sym (ne_eqb (white_end s 0) (length s) (λ e. ne (ap length (h.1 ∙ trim-white s (white-sound s e)))))
-  ]
+  | inr ne ↦ ne_eqb (length t.now) 0 ne ∙ sym (ne_eqb (white_end s 0) (length s) (λ e. ne (ap length (h.1 ∙ trim-white s (white-sound s e)))))
+]
 
 -- the name of a platform between white space
 abbrev Name : List ℕ → Type 0
@@ -88,7 +88,7 @@ Name ds = (scalars ds ≡ true) × ((es : List ℕ) → skip_leading_whitespace 
 trim-named : (v u ds : List ℕ) → White v → White u → Name ds → trim (v ++ (encodes ds ++ u)) ≡ encodes ds
 trim-named v u ds x y n =
     let b : v ++ (encodes ds ++ u) ≡ encodes (x.0 ++ (ds ++ y.0)) =
-      sym (encodes-append x.0 (ds ++ y.0) ∙ ap (λ l. encodes x.0 ++ l) (encodes-append ds y.0) ∙ ap (λ l. l ++ (encodes ds ++ encodes y.0)) x.1 ∙ ap (λ l. v ++ (encodes ds ++ l)) y.1) in
+    sym (encodes-append x.0 (ds ++ y.0) ∙ ap (λ l. encodes x.0 ++ l) (encodes-append ds y.0) ∙ ap (λ l. l ++ (encodes ds ++ encodes y.0)) x.1 ∙ ap (λ l. v ++ (encodes ds ++ l)) y.1) in
     let z = scalars-append ds y.0 n.0 (white-scalars y.0 y.2) in
     ap trim b ∙ trim-chars (x.0 ++ (ds ++ y.0)) (ds ++ y.0) ds (scalars-append x.0 (ds ++ y.0) (white-scalars x.0 x.2) z) (passed x.0 (ds ++ y.0) x.2 ∙ n.1 y.0) z (n.2 y.0 (dropped y.0 y.2))
 

@@ -39,7 +39,10 @@ pub(crate) fn closing_bracket(text: &[u8], from: usize) -> usize
     ensures within { result ≤ length text.now }
 {
     let rest = &text[from..];
-    from + rest.iter().position(|byte| *byte == b')').unwrap_or(rest.len())
+    from + rest
+        .iter()
+        .position(|byte| *byte == b')')
+        .unwrap_or(rest.len())
 }
 
 // The text without the white space around it, or none if it is not UTF-8.

@@ -7,8 +7,12 @@ ghost use Rattle.unicode_string.specs.Text.{is_word};
 ghost use Rattle.parsing.specs.declared.words.Mark.TheVariants as mark;
 ghost use Rattle.parsing.specs.Words.{first_at, bytes_of, begun_by, entry_of, read_of, opening_at, or_sign_at, and_sign_at, mark_at};
 
-use crate::nodes::{Operator, Predicate};
-use errors::reports::ReportKind;
+use crate::nodes::Operator::{self, Difference, Intersection, Union};
+use crate::nodes::Predicate::{self, Binary, BinaryId, Deps, Group, Kind, Package, Rdeps, Test};
+use Word::{Keyword, Letters};
+use errors::reports::ReportKind::{
+    self, ExprFoundBinaryOp, ExprFoundUnaryOp, InvalidAndOperator, InvalidOrOperator,
+};
 use expression::name_matcher::MatchKind;
 use unicode_string::tables::is_word;
 
@@ -66,50 +70,51 @@ enum Word {
     Keyword(&'static [u8]),
 }
 
-use Word::{Keyword, Letters};
-
 // What an operand begins with. No set name is the start of one below it: `binary` comes after `binary_id`.
 const OPENINGS: [(Word, Lead); 22] = [
-    (Letters(b"package"), Lead::Set(SetName::Matched(Predicate::Package))),
-    (Letters(b"deps"), Lead::Set(SetName::Matched(Predicate::Deps))),
-    (Letters(b"rdeps"), Lead::Set(SetName::Matched(Predicate::Rdeps))),
-    (Letters(b"kind"), Lead::Set(SetName::Matched(Predicate::Kind))),
-    (Letters(b"binary_id"), Lead::Set(SetName::Matched(Predicate::BinaryId))),
-    (Letters(b"binary"), Lead::Set(SetName::Matched(Predicate::Binary))),
-    (Letters(b"test"), Lead::Set(SetName::Matched(Predicate::Test))),
-    (Letters(b"group"), Lead::Set(SetName::Matched(Predicate::Group))),
+    (Letters(b"package"), Lead::Set(SetName::Matched(Package))),
+    (Letters(b"deps"), Lead::Set(SetName::Matched(Deps))),
+    (Letters(b"rdeps"), Lead::Set(SetName::Matched(Rdeps))),
+    (Letters(b"kind"), Lead::Set(SetName::Matched(Kind))),
+    (Letters(b"binary_id"), Lead::Set(SetName::Matched(BinaryId))),
+    (Letters(b"binary"), Lead::Set(SetName::Matched(Binary))),
+    (Letters(b"test"), Lead::Set(SetName::Matched(Test))),
+    (Letters(b"group"), Lead::Set(SetName::Matched(Group))),
     (Letters(b"platform"), Lead::Set(SetName::Platform)),
-    (Letters(b"default"), Lead::Set(SetName::Nullary(Nullary::Default))),
+    (
+        Letters(b"default"),
+        Lead::Set(SetName::Nullary(Nullary::Default)),
+    ),
     (Letters(b"all"), Lead::Set(SetName::Nullary(Nullary::All))),
     (Letters(b"none"), Lead::Set(SetName::Nullary(Nullary::None))),
     (Keyword(b"not"), Lead::Not),
     (Letters(b"!"), Lead::Not),
     (Letters(b"("), Lead::Group),
-    (Keyword(b"and"), Lead::Misplaced(ReportKind::ExprFoundBinaryOp)),
-    (Keyword(b"or"), Lead::Misplaced(ReportKind::ExprFoundBinaryOp)),
-    (Keyword(b"AND"), Lead::Misplaced(ReportKind::ExprFoundBinaryOp)),
-    (Keyword(b"OR"), Lead::Misplaced(ReportKind::ExprFoundBinaryOp)),
-    (Letters(b"&&"), Lead::Misplaced(ReportKind::ExprFoundBinaryOp)),
-    (Letters(b"||"), Lead::Misplaced(ReportKind::ExprFoundBinaryOp)),
-    (Keyword(b"NOT"), Lead::Misplaced(ReportKind::ExprFoundUnaryOp)),
+    (Keyword(b"and"), Lead::Misplaced(ExprFoundBinaryOp)),
+    (Keyword(b"or"), Lead::Misplaced(ExprFoundBinaryOp)),
+    (Keyword(b"AND"), Lead::Misplaced(ExprFoundBinaryOp)),
+    (Keyword(b"OR"), Lead::Misplaced(ExprFoundBinaryOp)),
+    (Letters(b"&&"), Lead::Misplaced(ExprFoundBinaryOp)),
+    (Letters(b"||"), Lead::Misplaced(ExprFoundBinaryOp)),
+    (Keyword(b"NOT"), Lead::Misplaced(ExprFoundUnaryOp)),
 ];
 
 // The signs that join operands of an or-expression.
 const OR_SIGNS: [(Word, (Operator, Option<ReportKind>)); 5] = [
-    (Letters(b"||"), (Operator::Union, Some(ReportKind::InvalidOrOperator))),
-    (Keyword(b"OR"), (Operator::Union, Some(ReportKind::InvalidOrOperator))),
-    (Keyword(b"or"), (Operator::Union, None)),
-    (Letters(b"|"), (Operator::Union, None)),
-    (Letters(b"+"), (Operator::Union, None)),
+    (Letters(b"||"), (Union, Some(InvalidOrOperator))),
+    (Keyword(b"OR"), (Union, Some(InvalidOrOperator))),
+    (Keyword(b"or"), (Union, None)),
+    (Letters(b"|"), (Union, None)),
+    (Letters(b"+"), (Union, None)),
 ];
 
 // The signs that join operands of an and-expression.
 const AND_SIGNS: [(Word, (Operator, Option<ReportKind>)); 5] = [
-    (Letters(b"&&"), (Operator::Intersection, Some(ReportKind::InvalidAndOperator))),
-    (Keyword(b"AND"), (Operator::Intersection, Some(ReportKind::InvalidAndOperator))),
-    (Keyword(b"and"), (Operator::Intersection, None)),
-    (Letters(b"&"), (Operator::Intersection, None)),
-    (Letters(b"-"), (Operator::Difference, None)),
+    (Letters(b"&&"), (Intersection, Some(InvalidAndOperator))),
+    (Keyword(b"AND"), (Intersection, Some(InvalidAndOperator))),
+    (Keyword(b"and"), (Intersection, None)),
+    (Letters(b"&"), (Intersection, None)),
+    (Letters(b"-"), (Difference, None)),
 ];
 
 // Whether no word goes on with the rest.
@@ -167,7 +172,11 @@ pub(crate) fn or_sign_at(rest: &[u8]) -> Option<Sign>
     ensures fits { IfSome result (λ s. (0 < s.length) × (s.length ≤ length rest.now)) }
 {
     let (length, (operator, fault)) = first_of(&OR_SIGNS, rest)?;
-    Some(Sign { operator, fault, length })
+    Some(Sign {
+        operator,
+        fault,
+        length,
+    })
 }
 
 // The sign that joins operands of an and-expression.
@@ -176,7 +185,11 @@ pub(crate) fn and_sign_at(rest: &[u8]) -> Option<Sign>
     ensures fits { IfSome result (λ s. (0 < s.length) × (s.length ≤ length rest.now)) }
 {
     let (length, (operator, fault)) = first_of(&AND_SIGNS, rest)?;
-    Some(Sign { operator, fault, length })
+    Some(Sign {
+        operator,
+        fault,
+        length,
+    })
 }
 
 // What an argument begins with.

@@ -1,8 +1,8 @@
-use Rattle.std.proofs.Common.{◌≡◌, ℕ, ◌+◌, ◌-◌, Bool, eqb, length, take, drop, unwrap_or, ap, ◌∙◌, rules, tests, arith}
+use Rattle.std.proofs.Common.{◌≡◌, ℕ, ◌+◌, ◌-◌, eqb, length, take, drop, unwrap_or, ap, ◌∙◌, rules, tests}
 use Rattle.std.proofs.lemmas.Iterator.{YieldsList-from_slice}
 use Rattle.std.proofs.lemmas.Iterator.Search.{position_from_yields_List}
 use Rattle.std.proofs.lemmas.List.{take_rest}
-use Rattle.parsing.specs.Text.{unclosed, closing}
+use Rattle.parsing.specs.Text.{closing}
 use Rattle.parsing.proofs.Scans.{unclosed-place}
 use Rattle.parsing.proofs.text.closing_bracket.Goals as goal
 

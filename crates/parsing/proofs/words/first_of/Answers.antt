@@ -1,10 +1,9 @@
-use Rattle.std.proofs.Common.{◌≡◌, ℕ, Some, Option, Bor, List, length, sym, ap, ◌∙◌, rules, tests}
-use Rattle.std.specs.List.{find}
+use Rattle.std.proofs.Common.{◌≡◌, ℕ, Some, Bor, List, length, sym, ap, ◌∙◌, rules, tests}
 use Rattle.std.specs.Option.{option_map}
 use Rattle.std.proofs.lemmas.Iterator.{YieldsList-from_slice}
 use Rattle.std.proofs.lemmas.Iterator.Search.{find_from_yields_List}
 use Rattle.parsing.specs.declared.words.Word.{Word}
-use Rattle.parsing.specs.Words.{bytes_of, begun_by}
+use Rattle.parsing.specs.Words.{begun_by}
 use Rattle.parsing.proofs.Tables.{told, told-by, found-fits}
 use Rattle.parsing.proofs.words.first_of.Goals as goal
 
