@@ -71,7 +71,7 @@ enum Word {
 }
 
 // What an operand begins with. No set name is the start of one below it: `binary` comes after `binary_id`.
-const OPENINGS: [(Word, Lead); 22] = [
+static OPENINGS: [(Word, Lead); 22] = [
     (Letters(b"package"), Lead::Set(SetName::Matched(Package))),
     (Letters(b"deps"), Lead::Set(SetName::Matched(Deps))),
     (Letters(b"rdeps"), Lead::Set(SetName::Matched(Rdeps))),
@@ -100,7 +100,7 @@ const OPENINGS: [(Word, Lead); 22] = [
 ];
 
 // The signs that join operands of an or-expression.
-const OR_SIGNS: [(Word, (Operator, Option<ReportKind>)); 5] = [
+static OR_SIGNS: [(Word, (Operator, Option<ReportKind>)); 5] = [
     (Letters(b"||"), (Union, Some(InvalidOrOperator))),
     (Keyword(b"OR"), (Union, Some(InvalidOrOperator))),
     (Keyword(b"or"), (Union, None)),
@@ -109,7 +109,7 @@ const OR_SIGNS: [(Word, (Operator, Option<ReportKind>)); 5] = [
 ];
 
 // The signs that join operands of an and-expression.
-const AND_SIGNS: [(Word, (Operator, Option<ReportKind>)); 5] = [
+static AND_SIGNS: [(Word, (Operator, Option<ReportKind>)); 5] = [
     (Letters(b"&&"), (Intersection, Some(InvalidAndOperator))),
     (Keyword(b"AND"), (Intersection, Some(InvalidAndOperator))),
     (Keyword(b"and"), (Intersection, None)),
