@@ -8,6 +8,7 @@ pub mod Matchers
 pub mod Sets
 pub mod Chains
 pub mod Basics
+pub mod Tables
 mod LawWords
 mod LawOpenings
 mod LawBlanks
@@ -15,6 +16,7 @@ mod LawRuns
 mod LawNames
 mod LawArguments
 mod LawWhite
+pub mod Trim
 mod LawSets
 mod LawSound
 mod LawPlaces

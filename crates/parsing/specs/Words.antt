@@ -17,6 +17,8 @@ use Rattle.parsing.specs.declared.words.Opening.{Opening}
 use Rattle.parsing.specs.declared.words.Sign.{Sign}
 use Rattle.parsing.specs.declared.words.Mark.{Mark}
 use Rattle.parsing.specs.declared.words.Mark.TheVariants as mark
+use Rattle.parsing.specs.declared.words.Word.{Word}
+use Rattle.parsing.specs.declared.words.Word.TheVariants as words
 use Rattle.parsing.specs.Text.{begins_at, keyword_at, is_at}
 
 -- the names of the sets that take a name
@@ -59,6 +61,19 @@ letters w x = record { word = w; whole = false; says = x }
 abbrev pub keyword : {X : Type 0} → List ℕ → X → Entry X
 keyword w x = record { word = w; whole = true; says = x }
 
+-- the bytes of a word of the program's tables, whether a text begins with it, and what it is an entry for
+abbrev pub bytes_of : Word → List ℕ
+bytes_of (words.Letters w) = w.now
+bytes_of (words.Keyword w) = w.now
+
+abbrev pub begun_by : List ℕ → Word → Bool
+begun_by t (words.Letters w) = begins_at t 0 w.now
+begun_by t (words.Keyword w) = keyword_at t 0 w.now
+
+abbrev pub entry_of : {X : Type 0} → Word × X → Entry X
+entry_of (words.Letters w, x) = letters w.now x
+entry_of (words.Keyword w, x) = keyword w.now x
+
 abbrev pub entry_at : {X : Type 0} → List ℕ → ℕ → Entry X → Bool
 entry_at t p e = cond e.whole (keyword_at t p e.word) (begins_at t p e.word)
 
@@ -66,6 +81,11 @@ entry_at t p e = cond e.whole (keyword_at t p e.word) (begins_at t p e.word)
 abbrev pub first_at : {X : Type 0} → List (Entry X) → List ℕ → ℕ → Option (Entry X)
 first_at [] t p = None
 first_at (e ∷ es) t p = cond (entry_at t p e) (Some e) (first_at es t p)
+
+-- how long its word is, and what it says
+abbrev pub read_of : {X : Type 0} → Option (Entry X) → Option (ℕ × X)
+read_of None = None
+read_of (Some e) = Some (length e.word, e.says)
 
 abbrev pub set_entry : Predicate → Entry Lead
 set_entry p = letters (name_of p) (lead.Set (sets.Matched p))

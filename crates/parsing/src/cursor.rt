@@ -202,7 +202,7 @@ impl Cursor<'_> {
         ensures moved { Moved 0 2 0 self.old self.new }
     {
         self.skip_blanks();
-        match mark_at(self.text, self.pos) {
+        match mark_at(&self.text[self.pos..]) {
             Mark::Regex => Err(ReadingFault::Regex {
                 place: self.pos,
                 count: self.count,
@@ -373,7 +373,7 @@ impl Cursor<'_> {
         ensures stays { result ≡ Ok None → view self.new ≡ view self.old }
     {
         let start = blanks_end(self.text, self.pos);
-        self.take_sign(start, or_sign_at(self.text, start))
+        self.take_sign(start, or_sign_at(&self.text[start..]))
     }
 
     // Takes blanks and a sign that joins operands of an and-expression, if there is one.
@@ -385,7 +385,7 @@ impl Cursor<'_> {
         ensures stays { result ≡ Ok None → view self.new ≡ view self.old }
     {
         let start = blanks_end(self.text, self.pos);
-        self.take_sign(start, and_sign_at(self.text, start))
+        self.take_sign(start, and_sign_at(&self.text[start..]))
     }
 
     // An or-expression: and-expressions joined from the left, with `free` nests left.
@@ -426,7 +426,7 @@ impl Cursor<'_> {
         ensures moved { Moved 0 1 0 self.old self.new }
     {
         let start = blanks_end(self.text, self.pos);
-        let Some(opening) = opening_at(self.text, start) else {
+        let Some(opening) = opening_at(&self.text[start..]) else {
             self.report(
                 ReportKind::ExpectedExpr,
                 self.pos,

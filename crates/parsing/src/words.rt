@@ -1,16 +1,18 @@
 // Copyright (c) The nextest Contributors
 // SPDX-License-Identifier: MIT OR Apache-2.0
 
-// What stands at a place of a text: set names, signs and marks.
-ghost use Rattle.std.specs.Prelude.{◌≡◌, ℕ, ◌+◌, ◌<◌, ◌≤◌, Bool, true, false, not, length, IfSome, Some, slice_index};
+// What the rest of a text begins with: set names, signs and marks.
+ghost use Rattle.std.specs.Prelude.{◌≡◌, ◌<◌, ◌≤◌, not, length, map, IfSome, slice_index};
 ghost use Rattle.unicode_string.specs.Text.{is_word};
-ghost use Rattle.parsing.specs.declared.words.Lead.TheVariants as lead;
 ghost use Rattle.parsing.specs.declared.words.Mark.TheVariants as mark;
-ghost use Rattle.parsing.specs.Text.{begins_at, keyword_at};
-ghost use Rattle.parsing.specs.Words.{opening, first_at, set_entries, sign_entries, opening_at, or_sign_at, and_sign_at, mark_at};
+ghost use Rattle.parsing.specs.Words.{first_at, bytes_of, begun_by, entry_of, read_of, opening_at, or_sign_at, and_sign_at, mark_at};
 
-use crate::nodes::{Operator, Predicate};
-use errors::reports::ReportKind;
+use crate::nodes::Operator::{self, Difference, Intersection, Union};
+use crate::nodes::Predicate::{self, Binary, BinaryId, Deps, Group, Kind, Package, Rdeps, Test};
+use Word::{Keyword, Letters};
+use errors::reports::ReportKind::{
+    self, ExprFoundBinaryOp, ExprFoundUnaryOp, InvalidAndOperator, InvalidOrOperator,
+};
 use expression::name_matcher::MatchKind;
 use unicode_string::tables::is_word;
 
@@ -61,285 +63,146 @@ pub(crate) enum Mark {
     Unmarked,
 }
 
-// The word stands at `at`.
-pub(crate) fn begins(text: &[u8], at: usize, word: &[u8]) -> bool
-    requires { at ≤ length text.now }
-    ensures value { result ≡ begins_at text.now at word.now }
-    ensures fits { result ≡ true → at + length word.now ≤ length text.now }
+// A word to look for; no word byte goes on after a keyword.
+#[derive(Clone, Copy)]
+enum Word {
+    Letters(&'static [u8]),
+    Keyword(&'static [u8]),
+}
+
+// What an operand begins with. No set name is the start of one below it: `binary` comes after `binary_id`.
+static OPENINGS: [(Word, Lead); 22] = [
+    (Letters(b"package"), Lead::Set(SetName::Matched(Package))),
+    (Letters(b"deps"), Lead::Set(SetName::Matched(Deps))),
+    (Letters(b"rdeps"), Lead::Set(SetName::Matched(Rdeps))),
+    (Letters(b"kind"), Lead::Set(SetName::Matched(Kind))),
+    (Letters(b"binary_id"), Lead::Set(SetName::Matched(BinaryId))),
+    (Letters(b"binary"), Lead::Set(SetName::Matched(Binary))),
+    (Letters(b"test"), Lead::Set(SetName::Matched(Test))),
+    (Letters(b"group"), Lead::Set(SetName::Matched(Group))),
+    (Letters(b"platform"), Lead::Set(SetName::Platform)),
+    (
+        Letters(b"default"),
+        Lead::Set(SetName::Nullary(Nullary::Default)),
+    ),
+    (Letters(b"all"), Lead::Set(SetName::Nullary(Nullary::All))),
+    (Letters(b"none"), Lead::Set(SetName::Nullary(Nullary::None))),
+    (Keyword(b"not"), Lead::Not),
+    (Letters(b"!"), Lead::Not),
+    (Letters(b"("), Lead::Group),
+    (Keyword(b"and"), Lead::Misplaced(ExprFoundBinaryOp)),
+    (Keyword(b"or"), Lead::Misplaced(ExprFoundBinaryOp)),
+    (Keyword(b"AND"), Lead::Misplaced(ExprFoundBinaryOp)),
+    (Keyword(b"OR"), Lead::Misplaced(ExprFoundBinaryOp)),
+    (Letters(b"&&"), Lead::Misplaced(ExprFoundBinaryOp)),
+    (Letters(b"||"), Lead::Misplaced(ExprFoundBinaryOp)),
+    (Keyword(b"NOT"), Lead::Misplaced(ExprFoundUnaryOp)),
+];
+
+// The signs that join operands of an or-expression.
+static OR_SIGNS: [(Word, (Operator, Option<ReportKind>)); 5] = [
+    (Letters(b"||"), (Union, Some(InvalidOrOperator))),
+    (Keyword(b"OR"), (Union, Some(InvalidOrOperator))),
+    (Keyword(b"or"), (Union, None)),
+    (Letters(b"|"), (Union, None)),
+    (Letters(b"+"), (Union, None)),
+];
+
+// The signs that join operands of an and-expression.
+static AND_SIGNS: [(Word, (Operator, Option<ReportKind>)); 5] = [
+    (Letters(b"&&"), (Intersection, Some(InvalidAndOperator))),
+    (Keyword(b"AND"), (Intersection, Some(InvalidAndOperator))),
+    (Keyword(b"and"), (Intersection, None)),
+    (Letters(b"&"), (Intersection, None)),
+    (Letters(b"-"), (Difference, None)),
+];
+
+// Whether no word goes on with the rest.
+#[tactic(auto, unfolding(unicode_string::specs::Text::is_word))]
+fn is_boundary(rest: &[u8]) -> bool
+    ensures { result ≡ not (is_word (slice_index rest.now 0)) }
 {
-    let mut i = 0;
-    while i < word.len() {
-        if at + i >= text.len() {
-            return false;
+    match rest {
+        [byte, ..] => !is_word(*byte),
+        [] => true,
+    }
+}
+
+impl Word {
+    fn bytes(self) -> &'static [u8]
+        ensures { result.now ≡ bytes_of self }
+    {
+        match self {
+            Letters(bytes) | Keyword(bytes) => bytes,
         }
-        if text[at + i] != word[i] {
-            return false;
+    }
+
+    // Whether the rest begins with it.
+    fn begins(self, rest: &[u8]) -> bool
+        ensures { result ≡ begun_by rest.now self }
+    {
+        match self {
+            Letters(bytes) => rest.starts_with(bytes),
+            Keyword(bytes) => rest.strip_prefix(bytes).is_some_and(is_boundary),
         }
-        i += 1;
     }
-    true
 }
 
-// Whether no word goes on at `at`.
-fn word_boundary(text: &[u8], at: usize) -> bool
-    ensures { result ≡ not (is_word (slice_index text.now at)) }
+// The bytes of the first word of the table that the rest begins with, and what it says.
+fn first_of<T: Copy>(table: &[(Word, T)], rest: &[u8]) -> Option<(usize, T)>
+    ensures value { result ≡ read_of (first_at (map entry_of table.now) rest.now 0) }
+    ensures fits { IfSome result (λ r. r.0 ≤ length rest.now) }
 {
-    if at >= text.len() {
-        return true;
-    }
-    !is_word(text[at])
+    let (word, says) = table.iter().find(|(word, _)| word.begins(rest))?;
+    Some((word.bytes().len(), *says))
 }
 
-// The word stands at `at`, and no word byte after it.
-fn keyword(text: &[u8], at: usize, word: &[u8]) -> bool
-    requires { at ≤ length text.now }
-    ensures value { result ≡ keyword_at text.now at word.now }
-    ensures fits { result ≡ true → at + length word.now ≤ length text.now }
+// What an operand begins with.
+pub(crate) fn opening_at(rest: &[u8]) -> Option<Opening>
+    ensures value { result ≡ opening_at rest.now 0 }
+    ensures fits { IfSome result (λ o. (0 < o.length) × (o.length ≤ length rest.now)) }
 {
-    if !begins(text, at, word) {
-        return false;
-    }
-    word_boundary(text, at + word.len())
+    let (length, lead) = first_of(&OPENINGS, rest)?;
+    Some(Opening { lead, length })
 }
 
-fn set_name(set: SetName, length: usize) -> Option<Opening>
-    ensures { result ≡ Some (record { lead = lead.Set set; length = length }) }
+// The sign that joins operands of an or-expression.
+pub(crate) fn or_sign_at(rest: &[u8]) -> Option<Sign>
+    ensures value { result ≡ or_sign_at rest.now 0 }
+    ensures fits { IfSome result (λ s. (0 < s.length) × (s.length ≤ length rest.now)) }
 {
-    Some(Opening {
-        lead: Lead::Set(set),
+    let (length, (operator, fault)) = first_of(&OR_SIGNS, rest)?;
+    Some(Sign {
+        operator,
+        fault,
         length,
     })
 }
 
-// The name of a set at `at`; none is the start of another but `binary`.
-fn set_name_at(text: &[u8], at: usize) -> Option<Opening>
-    requires { at ≤ length text.now }
-    ensures value { result ≡ opening (first_at set_entries text.now at) }
-    ensures fits { IfSome result (λ o. (0 < o.length) × (at + o.length ≤ length text.now)) }
+// The sign that joins operands of an and-expression.
+pub(crate) fn and_sign_at(rest: &[u8]) -> Option<Sign>
+    ensures value { result ≡ and_sign_at rest.now 0 }
+    ensures fits { IfSome result (λ s. (0 < s.length) × (s.length ≤ length rest.now)) }
 {
-    if begins(text, at, b"package") {
-        return set_name(SetName::Matched(Predicate::Package), 7);
-    }
-    if begins(text, at, b"deps") {
-        return set_name(SetName::Matched(Predicate::Deps), 4);
-    }
-    if begins(text, at, b"rdeps") {
-        return set_name(SetName::Matched(Predicate::Rdeps), 5);
-    }
-    if begins(text, at, b"kind") {
-        return set_name(SetName::Matched(Predicate::Kind), 4);
-    }
-    if begins(text, at, b"binary_id") {
-        return set_name(SetName::Matched(Predicate::BinaryId), 9);
-    }
-    if begins(text, at, b"binary") {
-        return set_name(SetName::Matched(Predicate::Binary), 6);
-    }
-    if begins(text, at, b"test") {
-        return set_name(SetName::Matched(Predicate::Test), 4);
-    }
-    if begins(text, at, b"group") {
-        return set_name(SetName::Matched(Predicate::Group), 5);
-    }
-    if begins(text, at, b"platform") {
-        return set_name(SetName::Platform, 8);
-    }
-    if begins(text, at, b"default") {
-        return set_name(SetName::Nullary(Nullary::Default), 7);
-    }
-    if begins(text, at, b"all") {
-        return set_name(SetName::Nullary(Nullary::All), 3);
-    }
-    if begins(text, at, b"none") {
-        return set_name(SetName::Nullary(Nullary::None), 4);
-    }
-    None
+    let (length, (operator, fault)) = first_of(&AND_SIGNS, rest)?;
+    Some(Sign {
+        operator,
+        fault,
+        length,
+    })
 }
 
-// A not sign, a bracket or a misplaced operator at `at`.
-fn lead_sign_at(text: &[u8], at: usize) -> Option<Opening>
-    requires { at ≤ length text.now }
-    ensures value { result ≡ opening (first_at sign_entries text.now at) }
-    ensures fits { IfSome result (λ o. (0 < o.length) × (at + o.length ≤ length text.now)) }
+// What an argument begins with.
+#[tactic(auto, unfolding(crate::specs::Words::mark_at))]
+pub(crate) fn mark_at(rest: &[u8]) -> Mark
+    ensures value { result ≡ mark_at rest.now 0 }
+    ensures fits { length rest.now ≡ 0 → result ≡ mark.Unmarked }
 {
-    if keyword(text, at, b"not") {
-        return Some(Opening {
-            lead: Lead::Not,
-            length: 3,
-        });
-    }
-    if begins(text, at, b"!") {
-        return Some(Opening {
-            lead: Lead::Not,
-            length: 1,
-        });
-    }
-    if begins(text, at, b"(") {
-        return Some(Opening {
-            lead: Lead::Group,
-            length: 1,
-        });
-    }
-    if keyword(text, at, b"and") {
-        return Some(Opening {
-            lead: Lead::Misplaced(ReportKind::ExprFoundBinaryOp),
-            length: 3,
-        });
-    }
-    if keyword(text, at, b"or") {
-        return Some(Opening {
-            lead: Lead::Misplaced(ReportKind::ExprFoundBinaryOp),
-            length: 2,
-        });
-    }
-    if keyword(text, at, b"AND") {
-        return Some(Opening {
-            lead: Lead::Misplaced(ReportKind::ExprFoundBinaryOp),
-            length: 3,
-        });
-    }
-    if keyword(text, at, b"OR") {
-        return Some(Opening {
-            lead: Lead::Misplaced(ReportKind::ExprFoundBinaryOp),
-            length: 2,
-        });
-    }
-    if begins(text, at, b"&&") {
-        return Some(Opening {
-            lead: Lead::Misplaced(ReportKind::ExprFoundBinaryOp),
-            length: 2,
-        });
-    }
-    if begins(text, at, b"||") {
-        return Some(Opening {
-            lead: Lead::Misplaced(ReportKind::ExprFoundBinaryOp),
-            length: 2,
-        });
-    }
-    if keyword(text, at, b"NOT") {
-        return Some(Opening {
-            lead: Lead::Misplaced(ReportKind::ExprFoundUnaryOp),
-            length: 3,
-        });
-    }
-    None
-}
-
-// What an operand at `at` begins with.
-pub(crate) fn opening_at(text: &[u8], at: usize) -> Option<Opening>
-    requires { at ≤ length text.now }
-    ensures value { result ≡ opening_at text.now at }
-    ensures fits { IfSome result (λ o. (0 < o.length) × (at + o.length ≤ length text.now)) }
-{
-    match set_name_at(text, at) {
-        Some(set) => Some(set),
-        None => lead_sign_at(text, at),
-    }
-}
-
-// The sign at `at` that joins operands of an or-expression.
-pub(crate) fn or_sign_at(text: &[u8], at: usize) -> Option<Sign>
-    requires { at ≤ length text.now }
-    ensures value { result ≡ or_sign_at text.now at }
-    ensures fits { IfSome result (λ o. (0 < o.length) × (at + o.length ≤ length text.now)) }
-{
-    let operator = Operator::Union;
-    if begins(text, at, b"||") {
-        return Some(Sign {
-            operator,
-            fault: Some(ReportKind::InvalidOrOperator),
-            length: 2,
-        });
-    }
-    if keyword(text, at, b"OR") {
-        return Some(Sign {
-            operator,
-            fault: Some(ReportKind::InvalidOrOperator),
-            length: 2,
-        });
-    }
-    if keyword(text, at, b"or") {
-        return Some(Sign {
-            operator,
-            fault: None,
-            length: 2,
-        });
-    }
-    if begins(text, at, b"|") {
-        return Some(Sign {
-            operator,
-            fault: None,
-            length: 1,
-        });
-    }
-    if begins(text, at, b"+") {
-        return Some(Sign {
-            operator,
-            fault: None,
-            length: 1,
-        });
-    }
-    None
-}
-
-// The sign at `at` that joins operands of an and-expression.
-pub(crate) fn and_sign_at(text: &[u8], at: usize) -> Option<Sign>
-    requires { at ≤ length text.now }
-    ensures value { result ≡ and_sign_at text.now at }
-    ensures fits { IfSome result (λ o. (0 < o.length) × (at + o.length ≤ length text.now)) }
-{
-    let operator = Operator::Intersection;
-    if begins(text, at, b"&&") {
-        return Some(Sign {
-            operator,
-            fault: Some(ReportKind::InvalidAndOperator),
-            length: 2,
-        });
-    }
-    if keyword(text, at, b"AND") {
-        return Some(Sign {
-            operator,
-            fault: Some(ReportKind::InvalidAndOperator),
-            length: 3,
-        });
-    }
-    if keyword(text, at, b"and") {
-        return Some(Sign {
-            operator,
-            fault: None,
-            length: 3,
-        });
-    }
-    if begins(text, at, b"&") {
-        return Some(Sign {
-            operator,
-            fault: None,
-            length: 1,
-        });
-    }
-    if begins(text, at, b"-") {
-        return Some(Sign {
-            operator: Operator::Difference,
-            fault: None,
-            length: 1,
-        });
-    }
-    None
-}
-
-// What an argument at `at` begins with.
-pub(crate) fn mark_at(text: &[u8], at: usize) -> Mark
-    ensures value { result ≡ mark_at text.now at }
-    ensures fits { length text.now ≤ at → result ≡ mark.Unmarked }
-{
-    if at >= text.len() {
-        return Mark::Unmarked;
-    }
-    match text[at] {
-        b'/' => Mark::Regex,
-        b'#' => Mark::Marked(MatchKind::Glob),
-        b'=' => Mark::Marked(MatchKind::Equal),
-        b'~' => Mark::Marked(MatchKind::Contains),
+    match rest {
+        [b'/', ..] => Mark::Regex,
+        [b'#', ..] => Mark::Marked(MatchKind::Glob),
+        [b'=', ..] => Mark::Marked(MatchKind::Equal),
+        [b'~', ..] => Mark::Marked(MatchKind::Contains),
         _ => Mark::Unmarked,
     }
 }

@@ -1,17 +1,23 @@
-use Rattle.std.proofs.Common.{get_or, sym, ap, ◌∙◌, arith, rules}
-use Rattle.parsing.specs.Text.{is_blank}
-use Rattle.parsing.proofs.Scans.{skip-on, skip-here, skip-end}
+use Rattle.std.proofs.Common.{arith}
+use Rattle.std.proofs.lemmas.List.{take_rest, length-drop}
+use Rattle.parsing.specs.Text.{skip}
+use Rattle.parsing.proofs.Scans.{blank-more, blank-none, skip-from}
 use Rattle.parsing.proofs.text.blanks_end.Goals as goal
 
-pub returns-then-not-is_blank : goal.returns-then-not-is_blank
-returns-then-not-is_blank c =
-    let e = sym (c.if-not-is_blank.ensures ∙ ap (is_blank (get_or c.args.text.now c.loop-at.at 0)) c.byte_at.ensures) in
-    record { value = skip-here c.args.text.now c.loop-at.at c.loop-at-test.true e ∙ c.loop-at.invariant.2; onward = c.loop-at.invariant.0; within = c.loop-at.invariant.1 }
+pub loop-rest-init : goal.loop-rest-init
+unfolding skip
+loop-rest-init c = rw (take_rest c.args.text.now c.args.from) (omega (arith, length-drop c.args.from c.args.text.now))
 
-pub loop-at-preserved : goal.loop-at-preserved
-loop-at-preserved c =
-    let e = sym (c.if-not-is_blank.ensures ∙ ap (is_blank (get_or c.args.text.now c.loop-at.at 0)) c.byte_at.ensures) in
-    (omega arith, omega arith, skip-on c.args.text.now c.loop-at.at c.loop-at-test.true e ∙ c.loop-at.invariant.2)
+pub loop-rest-preserved : goal.loop-rest-preserved
+loop-rest-preserved c =
+    let r = c.loop-rest.rest.now in
+    rw (take_rest r 1) (omega (arith, blank-more r c.loop-rest-test.ensures, length-drop 1 r, c.loop-rest.invariant))
+
+pub overflow_sub-result : goal.overflow_sub-result
+overflow_sub-result c = omega (arith, blank-none c.loop-rest.rest.now c.loop-rest-test.ensures, c.loop-rest.invariant)
 
 pub returns : goal.returns
-returns c = search (rules, skip-end)
+returns c =
+    let e = blank-none c.loop-rest.rest.now c.loop-rest-test.ensures in
+    let from = skip-from c.args.text.now c.args.from in
+    record { value = omega (arith, c.loop-rest.invariant); onward = omega (arith, c.loop-rest.invariant); within = omega arith }

@@ -1,9 +1,9 @@
-use Rattle.std.proofs.Common.{◌≡◌, ◌-◌, ◌≤◌, length}
-use Rattle.parsing.specs.Text.{skip}
+use Rattle.std.proofs.Common.{◌≡◌, ◌+◌, length}
+use Rattle.parsing.specs.Text.{blanks, skip}
 use Rattle.parsing.proofs.text.blanks_end.Given as goal
 
-abbrev pub invariant-loop-at : goal.invariant-loop-at
-invariant-loop-at l = (l.from ≤ l.at) × (l.at ≤ length l.text) × (skip l.text l.at ≡ skip l.text l.from)
+abbrev pub invariant-loop-rest : goal.invariant-loop-rest
+invariant-loop-rest l = skip l.text l.from + length l.rest ≡ length l.text + blanks l.rest
 
-abbrev pub decreases-loop-at : goal.decreases-loop-at
-decreases-loop-at l = length l.text - l.at
+abbrev pub decreases-loop-rest : goal.decreases-loop-rest
+decreases-loop-rest l = length l.rest

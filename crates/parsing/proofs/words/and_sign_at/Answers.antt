@@ -1,27 +1,12 @@
-use Rattle.std.proofs.Common.{rules}
-use Rattle.parsing.specs.Words.{and_sign_at}
+use Rattle.std.proofs.Common.{◌∙◌}
+use Rattle.parsing.specs.Words.{and_entries, and_sign_at}
+use Rattle.parsing.proofs.Tables.{sign-is}
 use Rattle.parsing.proofs.words.and_sign_at.Goals as goal
 
-pub returns-then-begins : goal.returns-then-begins
+pub returns-in_err-length-clause-value : goal.returns-in_err-length-clause-value
 unfolding and_sign_at
-returns-then-begins c = search rules
+returns-in_err-length-clause-value c = c.from_residual.ensures ∙ sign-is and_entries c.args.rest.now _ c.in_err-length.ensures.value
 
-pub returns-then-keyword : goal.returns-then-keyword
+pub returns-clause-value : goal.returns-clause-value
 unfolding and_sign_at
-returns-then-keyword c = search rules
-
-pub returns-then-keyword-2 : goal.returns-then-keyword-2
-unfolding and_sign_at
-returns-then-keyword-2 c = search rules
-
-pub returns-then-begins-2 : goal.returns-then-begins-2
-unfolding and_sign_at
-returns-then-begins-2 c = search rules
-
-pub returns-then-begins-3 : goal.returns-then-begins-3
-unfolding and_sign_at
-returns-then-begins-3 c = search rules
-
-pub returns : goal.returns
-unfolding and_sign_at
-returns c = search rules
+returns-clause-value c = sign-is and_entries c.args.rest.now _ c.in_ok-length.ensures.value

@@ -14,6 +14,7 @@ use Rattle.parsing.proofs.Moves.{moved-turn}
 use Rattle.parsing.proofs.Trees.{grown, halted, tree-ok, tree-err}
 use Rattle.parsing.proofs.Sets.{same_text, same_nodes}
 use Rattle.parsing.proofs.Chains.{ToGo, togo-start, togo-end, togo-stop, togo-break, togo-more, chain-stop, chain-then, nodes-negated, nodes-group}
+use Rattle.parsing.proofs.Tables.{opening-rest}
 use Rattle.parsing.proofs.Basics.{under-zero, under_more, basic-none, basic-set, basic-not, basic-group, basic-misplaced}
 use Rattle.parsing.proofs.cursor.Cursor.+expr.Goals as goal
 
@@ -133,7 +134,7 @@ parse_basic_expr-returns-in_default t c =
     let at = c.blanks_end-start.ensures.value in
     let g : Got (view s) (note Tree.bad (report_of ExpectedExpr s.pos (length text - s.pos)) (view s).at) (view c.report.new.self) (Ok Tree.bad) = record { state = c.report.ensures.ran.state; value = refl } in
     record {
-      read = tree-ok (λ x. basic_at x c.args.free) (got-by (basic-none text c.args.free (view s) p at c.in_default.ensures.value) g) (same_nodes c.report.ensures.kept ∙ sym (append-nil (held s)));
+      read = tree-ok (λ x. basic_at x c.args.free) (got-by (basic-none text c.args.free (view s) p at (c.in_default.ensures.value ∙ opening-rest text p)) g) (same_nodes c.report.ensures.kept ∙ sym (append-nil (held s)));
       moved = search rules;
     }
 
@@ -145,7 +146,7 @@ parse_basic_expr-returns-in_err-count_part-in-Set t c =
     let p = c.blanks_end-start.result in
     let at = c.blanks_end-start.ensures.value in
     let o = c.in-Some.opening in
-    let h = c.in-Some.ensures.value in
+    let h = c.in-Some.ensures.value ∙ opening-rest text p in
     let rd = λ (x : List ℕ). basic_at x c.args.free in
     record {
       read = rw (f.1, f.2) (tree-err rd (basic-set text c.args.free (view s) p at o h c.in-Set.set c.in-Set.is (got-stop (part p) _ (got_same c.in_err-count_part-in-Set.ensures.ran))));
@@ -160,7 +161,7 @@ parse_basic_expr-returns-in_err-parse_set_def-in-Set t c =
     let p = c.blanks_end-start.result in
     let at = c.blanks_end-start.ensures.value in
     let o = c.in-Some.opening in
-    let h = c.in-Some.ensures.value in
+    let h = c.in-Some.ensures.value ∙ opening-rest text p in
     let rd = λ (x : List ℕ). basic_at x c.args.free in
     let n = c.in-Set.set in
     let v = c.in_ok-count_part-in-Set.ensures in
@@ -177,7 +178,7 @@ parse_basic_expr-returns-in_ok-parse_set_def-in-Set t c =
     let p = c.blanks_end-start.result in
     let at = c.blanks_end-start.ensures.value in
     let o = c.in-Some.opening in
-    let h = c.in-Some.ensures.value in
+    let h = c.in-Some.ensures.value ∙ opening-rest text p in
     let rd = λ (x : List ℕ). basic_at x c.args.free in
     let n = c.in-Set.set in
     let v = c.in_ok-count_part-in-Set.ensures in
@@ -195,7 +196,7 @@ parse_basic_expr-returns-in_err-parse_expr_not-in-Not t c =
     let p = c.blanks_end-start.result in
     let at = c.blanks_end-start.ensures.value in
     let o = c.in-Some.opening in
-    let h = c.in-Some.ensures.value in
+    let h = c.in-Some.ensures.value ∙ opening-rest text p in
     let rd = λ (x : List ℕ). basic_at x c.args.free in
     record {
       read = rw (f.1, f.2) (tree-err rd (basic-not text c.args.free (view s) p at o h c.in-Not.is (got-err nothing c.in_err-parse_expr_not-in-Not.ensures.read.ran)));
@@ -209,7 +210,7 @@ parse_basic_expr-returns-in_ok-parse_expr_not-in-Not t c =
     let p = c.blanks_end-start.result in
     let at = c.blanks_end-start.ensures.value in
     let o = c.in-Some.opening in
-    let h = c.in-Some.ensures.value in
+    let h = c.in-Some.ensures.value ∙ opening-rest text p in
     let rd = λ (x : List ℕ). basic_at x c.args.free in
     let g = grown (λ x. part p ⨾ (λ _. (under_at x c.args.free p).not)) refl c.in_ok-parse_expr_not-in-Not.ensures.read in
     record {
@@ -225,7 +226,7 @@ parse_basic_expr-returns-in_err-parse_parentheses_expr-in-Group t c =
     let p = c.blanks_end-start.result in
     let at = c.blanks_end-start.ensures.value in
     let o = c.in-Some.opening in
-    let h = c.in-Some.ensures.value in
+    let h = c.in-Some.ensures.value ∙ opening-rest text p in
     let rd = λ (x : List ℕ). basic_at x c.args.free in
     record {
       read = rw (f.1, f.2) (tree-err rd (basic-group text c.args.free (view s) p at o h c.in-Group.is (got-err nothing c.in_err-parse_parentheses_expr-in-Group.ensures.read.ran)));
@@ -239,7 +240,7 @@ parse_basic_expr-returns-in_ok-parse_parentheses_expr-in-Group t c =
     let p = c.blanks_end-start.result in
     let at = c.blanks_end-start.ensures.value in
     let o = c.in-Some.opening in
-    let h = c.in-Some.ensures.value in
+    let h = c.in-Some.ensures.value ∙ opening-rest text p in
     let rd = λ (x : List ℕ). basic_at x c.args.free in
     let g = grown (λ x. part p ⨾ (λ _. (under_at x c.args.free p).group)) refl c.in_ok-parse_parentheses_expr-in-Group.ensures.read in
     record {
@@ -254,7 +255,7 @@ parse_basic_expr-returns-in-Misplaced t c =
     let p = c.blanks_end-start.result in
     let at = c.blanks_end-start.ensures.value in
     let o = c.in-Some.opening in
-    let h = c.in-Some.ensures.value in
+    let h = c.in-Some.ensures.value ∙ opening-rest text p in
     let rd = λ (x : List ℕ). basic_at x c.args.free in
     let k = c.in-Misplaced.kind in
     let r = report_of k p o.length in

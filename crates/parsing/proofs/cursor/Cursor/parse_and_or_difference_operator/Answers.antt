@@ -4,6 +4,7 @@ use Rattle.parsing.specs.Words.{and_sign_at}
 use Rattle.parsing.specs.Reading.{sign_for, and_sign}
 use Rattle.parsing.specs.View.{view}
 use Rattle.parsing.proofs.Runs.{got_same, got-by, ran-same}
+use Rattle.parsing.proofs.Tables.{and_sign-rest}
 use Rattle.parsing.proofs.cursor.Cursor.parse_and_or_difference_operator.Goals as goal
 
 pub returns : goal.returns
@@ -11,5 +12,5 @@ unfolding and_sign
 returns c =
     let s = view c.args.self.now in
     let q = c.blanks_end-start.result in
-    let e = ap (λ (x : Option Sign). sign_for q x s.at) c.and_sign_at.ensures.value ∙ ap (λ (p : ℕ). sign_for p (and_sign_at s.text p) s.at) c.blanks_end-start.ensures.value in
+    let e = ap (λ (x : Option Sign). sign_for q x s.at) (c.and_sign_at.ensures.value ∙ and_sign-rest s.text q) ∙ ap (λ (p : ℕ). sign_for p (and_sign_at s.text p) s.at) c.blanks_end-start.ensures.value in
     record { ran = ran-same (got-by e (got_same c.take_sign.ensures.ran)); kept = c.take_sign.ensures.kept; moved = c.take_sign.ensures.moved; stays = c.take_sign.ensures.stays }
