@@ -1,24 +1,10 @@
 -- How readings follow one another.
-use Rattle.std.proofs.Common.{◌≡◌, ℕ, suc, ◌+◌, List, [], ◌∷◌, ◌++◌, length, set, Some, None, Ok, Err, Option, Result, sym, refl, ap, ◌∙◌, subst, add-zero, add_assoc, arith, length-append}
-use lib.Seq.{sets}
+use Rattle.std.proofs.Common.{◌≡◌, ℕ, List, ◌++◌, Ok, Err, Result, sym, refl, ap, ◌∙◌, subst, add-zero, add_assoc, arith, length-append}
 use Rattle.errors.specs.declared.reports.Report.{Report}
 use Rattle.errors.specs.declared.faults.ReadingFault.{ReadingFault}
-use Rattle.unicode_string.specs.Names.{first_start}
+use Rattle.unicode_string.proofs.Runs.{sets-append, first-append}
 use Rattle.parsing.specs.Reading.{At, Out, after, follow, ◌⨾◌, done, moved, note, told, halt}
 use Rattle.parsing.specs.View.{St, grow, map_ok, Ran}
-
-sets-append : {X : Type 0} (l : List X) (i : ℕ) (a b : List X) → sets l i (a ++ b) ≡ sets (sets l i a) (i + length a) b
-sets-append l i [] b = rw add-zero refl
-sets-append l i (x ∷ a) b =
-    let e : suc i + length a ≡ i + length (x ∷ a) = omega arith in
-    sets-append (set l i x) (suc i) a b ∙ ap (λ (n : ℕ). sets (sets (set l i x) (suc i) a) n b) e
-
-first-append : (f : Option ℕ) (a b : List Report) → first_start f (a ++ b) ≡ first_start (first_start f a) b
-first-append f [] b = refl
-first-append None (r ∷ a) [] = refl
-first-append None (r ∷ a) (x ∷ b) = refl
-first-append (Some p) (r ∷ a) [] = refl
-first-append (Some p) (r ∷ a) (x ∷ b) = refl
 
 -- the two outputs in a row
 abbrev both : {X Y : Type 0} → Out X → Out Y → Out Y

@@ -5,7 +5,7 @@
 ghost use Rattle.std.specs.Prelude.{◌≡◌, ℕ, ◌+◌, ◌-◌, ◌*◌, ◌^◌, ◌<◌, ◌≤◌, Bool, true, false, length, is_some, IfSome, is_ok, if◌then◌else◌, None, Ok, Err, vec_capacity, Option};
 ghost use Rattle.glob.specs.Reading.{items_of};
 ghost use Rattle.parsing.specs.declared.nodes.Operator.{Operator};
-ghost use Rattle.parsing.specs.Text.{is_at, skip, closing};
+ghost use Rattle.parsing.specs.Text.{skip, closing};
 ghost use Rattle.parsing.specs.Words.{usual};
 ghost use Rattle.parsing.specs.Reading.{◌⨾◌, platform_of, moved, note, report_of, part, expect, text_at, matcher_at, argument_at, comma_at, unary_at, platform_at, nullary_at, nothing_at, set_at, sign_for, or_sign, and_sign, under_at, basic_at, and_at, or_at, end_at, filter_at};
 ghost use Rattle.parsing.specs.View.{view, Reads, ReadsTree, Ran, Kept, Sound, Moved, same, nothing, name_only, matcher_only, Taken, Spelt, bytes_at};
@@ -22,7 +22,7 @@ use expression::queries::BuildPlatform;
 use glob::place::Place;
 use glob::well_formed;
 use std::mem::replace;
-use unicode_string::{Name, name_part, parse_string};
+use unicode_string::{Name, Texts, is_at, parse_string};
 
 // At most so many parts are read: sets, brackets, not signs and joining signs.
 const MOST_PARTS: usize = 128;
@@ -31,6 +31,7 @@ const MOST_PARTS: usize = 128;
 pub(crate) const MOST_NESTS: usize = 32;
 
 // A place in the text, the parts counted, the reports made and the start of the first, and what is lent to write to.
+// The table and its count lie in it directly: within a struct of their own the check loses what the table holds at the end.
 #[derive(Drop)]
 pub(crate) struct Cursor<'a> {
     pub(crate) text: &'a [u8],
@@ -42,31 +43,6 @@ pub(crate) struct Cursor<'a> {
     pub(crate) used: usize,
     pub(crate) space: &'a mut [u8; 1024],
     pub(crate) nodes: &'a mut Vec<ParsedNode>,
-}
-
-// Whether the byte stands at `at`.
-fn is_at(text: &[u8], at: usize, byte: u8) -> bool
-    ensures { result ≡ is_at text.now at byte }
-{
-    at < text.len() && text[at] == byte
-}
-
-// Whether the name is a well-formed glob.
-fn is_glob(text: &[u8], space: &[u8; 1024], name: Name) -> bool
-    ensures { result ≡ is_some (items_of (bytes_at text.now space.now name)) }
-{
-    match name_part(text, space, name) {
-        Some(part) => well_formed(part.bytes),
-        None => true,
-    }
-}
-
-// The platform that the name says.
-fn platform_at(text: &[u8], space: &[u8; 1024], name: Name) -> Option<BuildPlatform>
-    ensures { result ≡ platform_of (bytes_at text.now space.now name) }
-{
-    let part = name_part(text, space, name)?;
-    platform_of(part.bytes)
 }
 
 impl Predicate {
@@ -88,20 +64,47 @@ impl Predicate {
 }
 
 impl Cursor<'_> {
+    // Where names lie.
+    fn texts(&self) -> Texts<'_>
+        ensures { (result.text.now ≡ self.now.text.now) × (result.space.now ≡ self.now.space.now) }
+    {
+        Texts {
+            text: self.text,
+            space: self.space,
+        }
+    }
+
+    // Whether the name is a well-formed glob.
+    fn is_glob(&self, name: Name) -> bool
+        ensures { result ≡ is_some (items_of (bytes_at self.now.text.now self.now.space.now name)) }
+    {
+        match self.texts().part(name) {
+            Some(part) => well_formed(part.bytes),
+            None => true,
+        }
+    }
+
+    // The platform that the name says.
+    fn platform_at(&self, name: Name) -> Option<BuildPlatform>
+        ensures { result ≡ platform_of (bytes_at self.now.text.now self.now.space.now name) }
+    {
+        let part = self.texts().part(name)?;
+        platform_of(part.bytes)
+    }
+
     // Makes a report, and keeps it while the table has room.
     fn report(&mut self, kind: ReportKind, start: usize, length: usize)
         requires { self.old.count + 1 < 2 ^ 64 }
         ensures ran { Ran (same {X = Unit {0}}) (view self.old) (note tt (report_of kind start length) (view self.old).at) (view self.new) (Ok tt) }
         ensures kept { Kept self.old self.new }
     {
+        let report = Report {
+            kind,
+            start,
+            length,
+        };
+        report.keep(self.table, self.count);
         self.first = self.first.or(Some(start));
-        if self.count < self.table.len() {
-            self.table[self.count] = Report {
-                kind,
-                start,
-                length,
-            };
-        }
         self.count += 1;
     }
 
@@ -184,7 +187,7 @@ impl Cursor<'_> {
         let name = self.parse_matcher_text()?;
         match kind {
             MatchKind::Glob => {
-                if !is_glob(self.text, self.space, name) {
+                if !self.is_glob(name) {
                     self.report(ReportKind::InvalidGlob, start, self.pos - start);
                     return None;
                 }
@@ -279,7 +282,7 @@ impl Cursor<'_> {
         let Some(name) = name else {
             return;
         };
-        match platform_at(self.text, self.space, name) {
+        match self.platform_at(name) {
             Some(platform) => self.nodes.push_reserved(ParsedNode::Set(ParsedLeaf::Platform(
                 platform,
                 Place { start, length },

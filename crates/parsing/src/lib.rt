@@ -14,6 +14,7 @@ ghost use Rattle.parsing.specs.Outcome.{answer_for, answer_of, table_of, space_o
 use cursor::Cursor;
 use errors::faults::{ReadingFault, TextFault};
 use errors::reports::Report;
+use errors::texts::LONGEST;
 use nodes::ParsedNode;
 use store::ParsedNodes;
 
@@ -22,9 +23,6 @@ pub mod nodes;
 pub mod store;
 mod text;
 mod words;
-
-// The longest text that is read, in bytes.
-const LONGEST: usize = 1024;
 
 // A reading that did not stop is faulty if it made reports, the first at `first`.
 fn verdict(
