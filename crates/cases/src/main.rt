@@ -2,7 +2,7 @@
 // Prints for each line `read` and the reading in postfix, or `refuse`, the number of the refusal, the place, the count and the reports.
 #![tactic(auto)]
 
-use errors::faults::ReadingFault;
+use errors::faults::{ReadingFault, Refusal};
 use errors::reports::{Report, ReportKind};
 use errors::texts::check_text;
 use expression::name_matcher::MatchKind;
@@ -11,80 +11,82 @@ use lines::split_lines;
 use parsing::nodes::{NameMatcher, Operator, ParsedLeaf, ParsedNode, Predicate};
 use parsing::parse;
 use parsing::store::ParsedNodes;
-use std::io;
 use std::io::{Read, Write};
-use unicode_string::name_part;
+use std::str::from_utf8;
+use std::{fmt, io};
+use unicode_string::Texts;
 
-fn predicate(p: Predicate) -> &'static [u8] {
+fn predicate(p: Predicate) -> &'static str {
     match p {
-        Predicate::Package => b"package",
-        Predicate::Deps => b"deps",
-        Predicate::Rdeps => b"rdeps",
-        Predicate::Kind => b"kind",
-        Predicate::BinaryId => b"binary_id",
-        Predicate::Binary => b"binary",
-        Predicate::Test => b"test",
-        Predicate::Group => b"group",
+        Predicate::Package => "package",
+        Predicate::Deps => "deps",
+        Predicate::Rdeps => "rdeps",
+        Predicate::Kind => "kind",
+        Predicate::BinaryId => "binary_id",
+        Predicate::Binary => "binary",
+        Predicate::Test => "test",
+        Predicate::Group => "group",
     }
 }
 
-fn mark(k: MatchKind) -> &'static [u8] {
+fn mark(k: MatchKind) -> char {
     match k {
-        MatchKind::Equal => b"(=",
-        MatchKind::Contains => b"(~",
-        MatchKind::Glob => b"(#",
+        MatchKind::Equal => '=',
+        MatchKind::Contains => '~',
+        MatchKind::Glob => '#',
     }
 }
 
-// A name's bytes; a control character is shown by its number.
-fn print_name(out: &mut impl Write, name: &[u8]) -> io::Result<()> {
-    for b in name {
-        if *b < 32 || *b == 127 {
-            let code = *b;
-            write!(out, "\\u{{{code:x}}}")?;
-        } else {
-            out.write_all(&[*b])?;
-        }
-    }
-    Ok(())
-}
+// A name, in which a control character is shown by its number.
+#[derive(Clone, Copy)]
+struct ShownName<'a>(&'a str);
 
-fn print_leaf(
-    out: &mut impl Write,
-    text: &[u8],
-    space: &[u8; 1024],
-    leaf: ParsedLeaf,
-) -> io::Result<()> {
-    match leaf {
-        ParsedLeaf::Matched(p, NameMatcher { kind, name }, _) => {
-            out.write_all(predicate(p))?;
-            out.write_all(mark(kind))?;
-            if let Some(part) = name_part(text, space, name) {
-                print_name(out, part.bytes)?;
+impl fmt::Display for ShownName<'_> {
+    fn fmt<W: fmt::Write>(&self, f: &mut fmt::Formatter<W>) -> fmt::Result {
+        for c in self.0.chars() {
+            if c.is_ascii_control() {
+                write!(f, "\\u{{{:x}}}", c as u32)?;
+            } else {
+                f.write_char(c)?;
             }
-            out.write_all(b")")
         }
-        ParsedLeaf::Platform(BuildPlatform::Host, _) => out.write_all(b"platform(host)"),
-        ParsedLeaf::Platform(BuildPlatform::Target, _) => out.write_all(b"platform(target)"),
-        ParsedLeaf::Default(_) => out.write_all(b"default()"),
-        ParsedLeaf::All => out.write_all(b"all()"),
-        ParsedLeaf::None => out.write_all(b"none()"),
+        Ok(())
     }
 }
 
-fn print_node(
-    out: &mut impl Write,
-    text: &[u8],
-    space: &[u8; 1024],
+// A node of a reading, with the texts that its names lie in.
+#[derive(Clone, Copy)]
+struct ShownNode<'a> {
     node: ParsedNode,
-) -> io::Result<()> {
-    match node {
-        ParsedNode::Set(leaf) => print_leaf(out, text, space, leaf),
-        ParsedNode::Not => out.write_all(b"not"),
-        ParsedNode::Parens => out.write_all(b"()"),
-        ParsedNode::Joined(Operator::Union) => out.write_all(b"or"),
-        ParsedNode::Joined(Operator::Intersection) => out.write_all(b"and"),
-        ParsedNode::Joined(Operator::Difference) => out.write_all(b"-"),
+    texts: Texts<'a>,
+}
+
+impl fmt::Display for ShownNode<'_> {
+    fn fmt<W: fmt::Write>(&self, f: &mut fmt::Formatter<W>) -> fmt::Result {
+        match self.node {
+            ParsedNode::Set(ParsedLeaf::Matched(p, NameMatcher { kind, name }, _)) => {
+                let bytes = self
+                    .texts
+                    .part(name)
+                    .map_or(b"".as_slice(), |part| part.bytes);
+                let name = ShownName(from_utf8(bytes).unwrap_or(""));
+                write!(f, "{}({}{name})", predicate(p), mark(kind))
+            }
+            ParsedNode::Set(ParsedLeaf::Platform(BuildPlatform::Host, _)) => {
+                f.write_str("platform(host)")
+            }
+            ParsedNode::Set(ParsedLeaf::Platform(BuildPlatform::Target, _)) => {
+                f.write_str("platform(target)")
+            }
+            ParsedNode::Set(ParsedLeaf::Default(_)) => f.write_str("default()"),
+            ParsedNode::Set(ParsedLeaf::All) => f.write_str("all()"),
+            ParsedNode::Set(ParsedLeaf::None) => f.write_str("none()"),
+            ParsedNode::Not => f.write_str("not"),
+            ParsedNode::Parens => f.write_str("()"),
+            ParsedNode::Joined(Operator::Union) => f.write_str("or"),
+            ParsedNode::Joined(Operator::Intersection) => f.write_str("and"),
+            ParsedNode::Joined(Operator::Difference) => f.write_str("-"),
+        }
     }
 }
 
@@ -100,34 +102,30 @@ fn read(
 }
 
 fn print_refusal(out: &mut impl Write, fault: ReadingFault, table: &[Report]) -> io::Result<()> {
-    let refusal = fault.refusal();
-    let number = refusal.number;
-    let place = refusal.place;
-    let count = refusal.count;
+    let Refusal {
+        number,
+        place,
+        count,
+        ..
+    } = fault.refusal();
     write!(out, "refuse {number} {place} {count}")?;
     for report in table.iter().take(count) {
         write!(out, " {report}")?;
     }
-    out.write_all(b"\n")
+    writeln!(out)
 }
 
-fn print_reading(
-    out: &mut impl Write,
-    text: &[u8],
-    space: &[u8; 1024],
-    nodes: &[ParsedNode],
-) -> io::Result<()> {
-    out.write_all(b"read")?;
+fn print_reading(out: &mut impl Write, texts: Texts<'_>, nodes: &[ParsedNode]) -> io::Result<()> {
+    write!(out, "read")?;
     for node in nodes {
-        out.write_all(b" ")?;
-        print_node(out, text, space, *node)?;
+        write!(out, " {}", ShownNode { node: *node, texts })?;
     }
-    out.write_all(b"\n")
+    writeln!(out)
 }
 
 fn print_line(out: &mut impl Write, line: &[u8], nodes: &mut ParsedNodes) -> io::Result<()> {
     let [b'T' | b'A' | b'O' | b'D', b' ', text @ ..] = line else {
-        return out.write_all(b"unreadable line\n");
+        return writeln!(out, "unreadable line");
     };
     let mut table = [Report {
         kind: ReportKind::InvalidGlob,
@@ -136,7 +134,14 @@ fn print_line(out: &mut impl Write, line: &[u8], nodes: &mut ParsedNodes) -> io:
     }; 1024];
     let mut space = [0; 1024];
     match read(text, &mut table, &mut space, nodes) {
-        Ok(()) => print_reading(out, text, &space, nodes.as_slice()),
+        Ok(()) => print_reading(
+            out,
+            Texts {
+                text,
+                space: &space,
+            },
+            nodes.as_slice(),
+        ),
         Err(fault) => print_refusal(out, fault, &table),
     }
 }

@@ -58,7 +58,7 @@ impl<R: Row> Roster for Rows<'_, R> {
 }
 
 // The group of the test of that name in the binary of that id.
-#[derive(Clone, Copy)]
+#[derive(Clone, Copy, PartialEq, Eq, Debug)]
 pub struct TestRow {
     pub binary_id: Place,
     pub test_name: Place,
@@ -88,7 +88,7 @@ impl Row for TestRow {
 pub type TestRoster<'a> = Rows<'a, TestRow>;
 
 // The group of the tests whose name begins with the prefix.
-#[derive(Clone, Copy)]
+#[derive(Clone, Copy, PartialEq, Eq, Debug)]
 pub struct PrefixRow {
     pub prefix: Place,
     pub group: usize,
