@@ -15,19 +15,17 @@ mod tests {
         length: 7,
     };
 
-    fn faulty(answer: Result<(), ReadingFault>, at: usize, reports: usize) -> bool {
-        match answer {
-            Err(ReadingFault::Faulty { place, count }) => place == at && count == reports,
-            _ => false,
+    // Reports were made, the first at `place`.
+    fn faulty(place: usize, count: usize) -> Result<(), ReadingFault> {
+        Err(ReadingFault::Faulty { place, count })
+    }
+
+    fn report(kind: ReportKind, start: usize, length: usize) -> Report {
+        Report {
+            kind,
+            start,
+            length,
         }
-    }
-
-    fn is_report(report: Report, kind: ReportKind, start: usize, length: usize) -> bool {
-        report.kind.number() == kind.number() && report.start == start && report.length == length
-    }
-
-    fn is_unused(report: Report) -> bool {
-        is_report(report, UNUSED.kind, UNUSED.start, UNUSED.length)
     }
 
     #[test]
@@ -35,27 +33,27 @@ mod tests {
         let mut nodes = ParsedNodes::new(rt.alloc())?;
         let mut table = [UNUSED; 2];
         let mut space = [1; 1024];
-        assert!(rt;
+        assert_eq!(rt;
             parse(
                 b"all()\r\nand\n\nnone()\n",
                 &mut table,
                 &mut space,
                 &mut nodes,
-            )
-            .is_ok()
+            ),
+            Ok(())
         );
-        assert!(rt; nodes.as_slice().len() == 3);
-        assert!(rt; is_unused(table[0]));
-        assert!(rt;
-            faulty(
-                parse(b"all()\r and none()", &mut table, &mut space, &mut nodes),
-                5,
-                1,
-            )
+        assert_eq!(rt; nodes.as_slice().len(), 3);
+        assert_eq!(rt; table[0], UNUSED);
+        assert_eq!(rt;
+            parse(b"all()\r and none()", &mut table, &mut space, &mut nodes),
+            faulty(5, 1)
         );
         assert!(rt; nodes.as_slice().is_empty());
-        assert!(rt; is_report(table[0], ReportKind::ExpectedEndOfExpression, 5, 12));
-        assert!(rt; is_unused(table[1]));
+        assert_eq!(rt;
+            table[0],
+            report(ReportKind::ExpectedEndOfExpression, 5, 12)
+        );
+        assert_eq!(rt; table[1], UNUSED);
         Ok(())
     }
 
@@ -64,9 +62,15 @@ mod tests {
         let mut nodes = ParsedNodes::new(rt.alloc())?;
         let mut table = [UNUSED; 1];
         let mut space = [1; 1024];
-        assert!(rt; faulty(parse(b"or all()", &mut [], &mut space, &mut nodes), 0, 2));
-        assert!(rt; faulty(parse(b"or all()", &mut table, &mut space, &mut nodes), 0, 2));
-        assert!(rt; is_report(table[0], ReportKind::ExprFoundBinaryOp, 0, 2));
+        assert_eq!(rt;
+            parse(b"or all()", &mut [], &mut space, &mut nodes),
+            faulty(0, 2)
+        );
+        assert_eq!(rt;
+            parse(b"or all()", &mut table, &mut space, &mut nodes),
+            faulty(0, 2)
+        );
+        assert_eq!(rt; table[0], report(ReportKind::ExprFoundBinaryOp, 0, 2));
         Ok(())
     }
 

@@ -16,7 +16,7 @@ fn is_refused(
     assert_eq!(rt; fault.number(), number);
     assert_eq!(rt; fault.place(), place);
     assert_eq!(rt; fault.count(), count);
-    assert_eq!(rt; fault.layer() as u8, layer as u8);
+    assert_eq!(rt; fault.layer(), layer);
 }
 
 // A lower fault is passed up by `?`, and kept whole.
