@@ -1,8 +1,10 @@
 -- A basic, case by case.
-use Rattle.std.proofs.Common.{◌≡◌, ℕ, zero, suc, ◌+◌, ◌-◌, List, length, Some, None, Option, Result, sym, refl, ap, ◌∙◌, arith}
+use Rattle.std.proofs.Common.{◌≡◌, ℕ, zero, suc, ◌+◌, ◌-◌, Bool, true, false, cond, List, [], length, Some, None, Option, Result, Ok, Err, sym, refl, ap, ◌∙◌, subst, arith, add-one}
 use Rattle.errors.specs.declared.reports.ReportKind.{ReportKind}
 use Rattle.errors.specs.declared.reports.ReportKind.TheVariants.{ExpectedExpr}
 use Rattle.errors.specs.declared.faults.ReadingFault.{ReadingFault}
+use Rattle.errors.specs.declared.faults.ReadingFault.TheVariants.{Deep, Crowded}
+use Rattle.std.specs.Prelude.{nat_lt}
 use Rattle.parsing.specs.declared.words.Lead.{Lead}
 use Rattle.parsing.specs.declared.words.Lead.TheVariants as lead
 use Rattle.parsing.specs.declared.words.SetName.{SetName}
@@ -10,16 +12,52 @@ use Rattle.parsing.specs.declared.words.Opening.{Opening}
 use Rattle.parsing.specs.Tree.{Tree}
 use Rattle.parsing.specs.Text.{skip}
 use Rattle.parsing.specs.Words.{opening_at}
-use Rattle.parsing.specs.Reading.{At, Out, Called, ◌⨾◌, moved, note, told, report_of, part, set_at, deepest, within, under_at, operand_for, operand_by, operand_at, basic_at}
+use Rattle.parsing.specs.Reading.{At, Out, Called, ◌⨾◌, moved, note, told, report_of, part, halt, done, opened, left, deeper, set_at, follow, within, under_at, operand_for, operand_by, operand_at, basic_at}
 use Rattle.parsing.specs.View.{St}
 use Rattle.parsing.proofs.Runs.{Got, got-then, got-moved, got-by, move_to}
 
-pub under-zero : (t : List ℕ) (n : ℕ) → n ≡ 0 → under_at t n ≡ deepest
-under-zero t n e = ap (under_at t) e
+pub under_more : (t : List ℕ) (n m : ℕ) → n ≡ m + 1 → under_at t n ≡ within t (basic_at t m)
+under_more t n m e = ap (under_at t) (e ∙ add-one m)
 
-pub under_more : (t : List ℕ) (n : ℕ) → (n ≡ 0 → ⊥) → under_at t n ≡ within t (basic_at t (n - 1))
-under_more t zero ne = absurd (ne refl)
-under_more t (suc n) ne = let e : suc n - 1 ≡ n = omega arith in rw e refl
+pub left-more : (p n m : ℕ) (a : At) → n ≡ m + 1 → left p n a ≡ done m a
+left-more p n m a e = ap (λ (k : ℕ). left p k a) (e ∙ add-one m)
+
+pub left-none : (p n : ℕ) (a : At) → n ≡ 0 → left p n a ≡ halt (Deep p a.count) a
+left-none p n a e = ap (λ (k : ℕ). left p k a) e
+
+same-err : {X Y : Type 0} {d x : ReadingFault} → ◌≡◌ {A = Result X ReadingFault} (Err d) (Err x) → ◌≡◌ {A = Result Y ReadingFault} (Err d) (Err x)
+same-err {X} {Y} {d} {x} e = let q : d ≡ x = cc in ap (λ (f : ReadingFault). Err f) q
+
+no-err : {X : Type 0} {y : X} {x : ReadingFault} → ◌≡◌ {A = Result X ReadingFault} (Ok y) (Err x) → ⊥
+no-err e = let z : ◌≡◌ {A = ℕ} 0 1 = cc in omega arith
+
+no-ok : {X : Type 0} {y : X} {x : ReadingFault} → ◌≡◌ {A = Result X ReadingFault} (Err x) (Ok y) → ⊥
+no-ok e = let z : ◌≡◌ {A = ℕ} 0 1 = cc in omega arith
+
+-- the part, counted or one too many
+abbrev counted : ℕ → At → Bool → Out (Unit {0})
+counted p a b = cond b (record { pos = a.pos; parts = a.parts + 1; reports = []; bytes = []; value = Ok tt }) (halt (Crowded p a.count) a)
+
+-- a nest was opened, or the reading stops, as with any reader that stops where no nest is left
+module _ (p : ℕ) {s e : St} where
+  ok-at : (b : Bool) (n m : ℕ) → Got s (follow s.at (counted p s.at b) (λ _. left p n) (counted p s.at b).value) e (Ok m) → (n ≡ m + 1) × Got s (counted p s.at b) e (Ok tt)
+  ok-at true zero m g = absurd (no-ok g.value)
+  ok-at true (suc n) m g = (let q : n ≡ m = cc in omega (arith, q), record { state = g.state; value = refl })
+  ok-at false n m g = absurd (no-ok g.value)
+
+  pub nest-ok : (n m : ℕ) → Got s (opened p n s.at) e (Ok m) → (n ≡ m + 1) × Got s (part p s.at) e (Ok tt)
+  unfolding ◌⨾◌
+  nest-ok n m g = ok-at (nat_lt s.at.parts 128) n m g
+
+  err-at : {x : ReadingFault} (b : Bool) (n : ℕ) (k : At → Out (Tree Called)) → (n ≡ 0 → k ≡ deeper p) → Got s (follow s.at (counted p s.at b) (λ _. left p n) (counted p s.at b).value) e (Err x) →
+      Got s (follow s.at (counted p s.at b) (λ _. k) (counted p s.at b).value) e (Err x)
+  err-at {x} true zero k z g = subst (λ (k : At → Out (Tree Called)). Got s (follow s.at (counted p s.at true) (λ _. k) (Ok tt)) e (Err x)) (sym (z refl)) (record { state = g.state; value = same-err g.value })
+  err-at true (suc n) k z g = absurd (no-err g.value)
+  err-at false n k z g = record { state = g.state; value = same-err g.value }
+
+  pub nest-err : {x : ReadingFault} (n : ℕ) (k : At → Out (Tree Called)) → (n ≡ 0 → k ≡ deeper p) → Got s (opened p n s.at) e (Err x) → Got s ((part p ⨾ (λ _. k)) s.at) e (Err x)
+  unfolding ◌⨾◌
+  nest-err n k z g = err-at (nat_lt s.at.parts 128) n k z g
 
 basic-is : (t : List ℕ) (n : ℕ) (a : At) → operand_at t (under_at t n) a ≡ basic_at t n a
 unfolding basic_at

@@ -248,6 +248,14 @@ pub record Under : Type 0 where
 abbrev pub deeper : ℕ → At → Out (Tree Called)
 deeper p a = halt (Deep p a.count) a
 
+-- what is left of so many nests when one more is opened at p, which is a part
+abbrev pub left : ℕ → ℕ → At → Out ℕ
+left p zero a = halt (Deep p a.count) a
+left p (suc n) a = done n a
+
+abbrev pub opened : ℕ → ℕ → At → Out ℕ
+opened p n = part p ⨾ (λ _. left p n)
+
 -- an operand by what it begins with, from p on
 abbrev pub operand_for : List ℕ → (ℕ → Under) → ℕ → Opening → At → Out (Tree Called)
 operand_for t under p o = elim o.lead as (λ _. At → Out (Tree Called)) [

@@ -7,7 +7,7 @@ ghost use Rattle.glob.specs.Reading.{items_of};
 ghost use Rattle.parsing.specs.declared.nodes.Operator.{Operator};
 ghost use Rattle.parsing.specs.Text.{skip, closing};
 ghost use Rattle.parsing.specs.Words.{usual};
-ghost use Rattle.parsing.specs.Reading.{◌⨾◌, platform_of, moved, note, report_of, part, expect, text_at, matcher_at, argument_at, comma_at, unary_at, platform_at, nullary_at, nothing_at, set_at, sign_for, or_sign, and_sign, under_at, basic_at, and_at, or_at, end_at, filter_at};
+ghost use Rattle.parsing.specs.Reading.{◌⨾◌, platform_of, moved, note, report_of, part, expect, text_at, matcher_at, argument_at, comma_at, unary_at, platform_at, nullary_at, nothing_at, set_at, sign_for, or_sign, and_sign, opened, under_at, basic_at, and_at, or_at, end_at, filter_at};
 ghost use Rattle.parsing.specs.View.{view, Reads, ReadsTree, Ran, Kept, Sound, Moved, same, nothing, name_only, matcher_only, Taken, Spelt, bytes_at};
 
 use crate::nodes::{NameMatcher, Operator, ParsedLeaf, ParsedNode, Predicate};
@@ -368,6 +368,7 @@ impl Cursor<'_> {
     }
 
     // Takes blanks and a sign that joins operands of an or-expression, if there is one.
+    // What it shares with the next function is `take_sign`: one function for both, told its signs, would be no shorter.
     fn parse_or_operator(&mut self) -> Result<Option<Operator>, ReadingFault>
         requires { Sound 0 16 self.old }
         ensures ran { Reads (same {X = Option Operator}) or_sign self.old self.new result }
@@ -392,6 +393,7 @@ impl Cursor<'_> {
     }
 
     // An or-expression: and-expressions joined from the left, with `free` nests left.
+    // The two levels stay apart, as in the grammar: one reader for both would have to ask for its level at every sign and operand.
     #[cycle(expr)]
     fn parse_expr(&mut self, free: usize) -> Result<(), ReadingFault>
         requires { Sound 0 1 self.old }
@@ -450,6 +452,24 @@ impl Cursor<'_> {
         Ok(())
     }
 
+    // Opens one of the nests that are left; its sign, a part, begins at `start`. Answers how many are left then.
+    fn open_nest(&mut self, start: usize, free: usize) -> Result<usize, ReadingFault>
+        requires { Sound 0 16 self.old }
+        ensures ran { Reads (same {X = ℕ}) (λ _. opened start free) self.old self.new result }
+        ensures kept { Kept self.old self.new }
+        ensures moved { Moved 0 0 0 self.old self.new }
+        ensures parts { is_ok result ≡ true → self.new.parts ≡ self.old.parts + 1 }
+    {
+        self.count_part(start)?;
+        match free.checked_sub(1) {
+            Some(left) => Ok(left),
+            None => Err(ReadingFault::Deep {
+                place: start,
+                count: self.count,
+            }),
+        }
+    }
+
     // What follows a not sign, which begins at `start`.
     #[cycle(expr)]
     fn parse_expr_not(&mut self, start: usize, free: usize) -> Result<(), ReadingFault>
@@ -457,14 +477,8 @@ impl Cursor<'_> {
         ensures read { ReadsTree (λ t. part start ⨾ (λ _. (under_at t free start).not)) self.old self.new result }
         ensures moved { Moved 0 1 0 self.old self.new }
     {
-        self.count_part(start)?;
-        if free == 0 {
-            return Err(ReadingFault::Deep {
-                place: start,
-                count: self.count,
-            });
-        }
-        self.parse_basic_expr(free - 1)?;
+        let left = self.open_nest(start, free)?;
+        self.parse_basic_expr(left)?;
         self.nodes.push_reserved(ParsedNode::Not);
         Ok(())
     }
@@ -476,14 +490,8 @@ impl Cursor<'_> {
         ensures read { ReadsTree (λ t. part start ⨾ (λ _. (under_at t free start).group)) self.old self.new result }
         ensures moved { Moved 0 2 0 self.old self.new }
     {
-        self.count_part(start)?;
-        if free == 0 {
-            return Err(ReadingFault::Deep {
-                place: start,
-                count: self.count,
-            });
-        }
-        self.parse_expr(free - 1)?;
+        let left = self.open_nest(start, free)?;
+        self.parse_expr(left)?;
         self.expect_char(b')', ReportKind::ExpectedCloseParenthesis);
         self.nodes.push_reserved(ParsedNode::Parens);
         Ok(())

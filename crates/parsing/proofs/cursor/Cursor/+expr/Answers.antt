@@ -1,21 +1,20 @@
 use Rattle.std.proofs.Common.{◌≡◌, ℕ, ◌+◌, ◌-◌, ◌<◌, List, [], ◌∷◌, ◌++◌, length, Ok, Option, sym, refl, ap, ◌∙◌, subst, append_assoc, append-nil, arith, rules}
 use Rattle.std.proofs.lemmas.Result.{err_from_is_err_and}
 use Rattle.errors.specs.declared.reports.ReportKind.TheVariants.{ExpectedExpr, ExpectedCloseParenthesis}
-use Rattle.errors.specs.declared.faults.ReadingFault.TheVariants.{Deep}
 use Rattle.parsing.specs.declared.nodes.Operator.{Operator}
 use Rattle.parsing.specs.declared.nodes.ParsedNode.{ParsedNode}
 use Rattle.parsing.specs.declared.nodes.ParsedNode.TheVariants as node
 use Rattle.parsing.specs.Tree.{Tree}
 use Rattle.parsing.specs.Nodes.{nodes_of}
-use Rattle.parsing.specs.Reading.{◌⨾◌, done, note, told, report_of, part, expect, close_at, set_at, or_sign, and_sign, Under, under_at, basic_at, and_at, or_at}
+use Rattle.parsing.specs.Reading.{◌⨾◌, done, note, told, report_of, part, deeper, expect, close_at, set_at, or_sign, and_sign, Under, under_at, basic_at, and_at, or_at}
 use Rattle.parsing.specs.View.{view, held, nothing, Taken, Moved}
-use Rattle.parsing.proofs.Runs.{Got, got-then, got-stop, got-done, got-by, got_same, got-err, got-halt, got-moved, got-told, re-at}
+use Rattle.parsing.proofs.Runs.{Got, got-then, got-stop, got-done, got-by, got_same, got-err, got-moved, got-told, re-at}
 use Rattle.parsing.proofs.Moves.{moved-turn}
 use Rattle.parsing.proofs.Trees.{grown, halted, tree-ok, tree-err}
 use Rattle.parsing.proofs.Sets.{same_text, same_nodes}
 use Rattle.parsing.proofs.Chains.{ToGo, togo-start, togo-end, togo-stop, togo-break, togo-more, chain-stop, chain-then, nodes-negated, nodes-group}
 use Rattle.parsing.proofs.Tables.{opening-rest}
-use Rattle.parsing.proofs.Basics.{under-zero, under_more, basic-none, basic-set, basic-not, basic-group, basic-misplaced}
+use Rattle.parsing.proofs.Basics.{under_more, nest-ok, nest-err, basic-none, basic-set, basic-not, basic-group, basic-misplaced}
 use Rattle.parsing.proofs.cursor.Cursor.+expr.Goals as goal
 
 pub parse_and_or_difference_expr-returns-in_err-parse_basic_expr : goal.parse_and_or_difference_expr-returns-in_err-parse_basic_expr
@@ -374,30 +373,20 @@ parse_expr-returns t c =
       moved = search rules;
     }
 
-pub parse_expr_not-returns-in_err-count_part : goal.parse_expr_not-returns-in_err-count_part
-parse_expr_not-returns-in_err-count_part t c =
+pub parse_expr_not-parse_basic_expr-requires : goal.parse_expr_not-parse_basic_expr-requires
+parse_expr_not-parse_basic_expr-requires t c =
+    let o = nest-ok c.args.start c.args.free c.in_ok-left.left (got_same c.in_ok-left.ensures.ran) in (omega (arith, o.0, c.decreases), search rules)
+
+pub parse_expr_not-returns-in_err-left : goal.parse_expr_not-returns-in_err-left
+parse_expr_not-returns-in_err-left t c =
     let f = err_from_is_err_and c.from_residual.result c.from_residual.ensures.1 in
     let s = c.args.self.now in
     let text = s.text.now in
     let free = c.args.free in
     let start = c.args.start in
-    let m = view c.count_part.new.self in
     let rd = λ (x : List ℕ). part start ⨾ (λ _. (under_at x free start).not) in
-    let go = λ (u : ℕ → Under). (u start).not m.at in
-    record { read = rw (f.1, f.2) (tree-err rd (got-stop (part start) (λ _. (under_at text free start).not) (got_same c.in_err-count_part.ensures.ran))); moved = search rules }
-
-pub parse_expr_not-returns-then-free-eq0 : goal.parse_expr_not-returns-then-free-eq0
-parse_expr_not-returns-then-free-eq0 t c =
-    let s = c.args.self.now in
-    let text = s.text.now in
-    let free = c.args.free in
-    let start = c.args.start in
-    let m = view c.count_part.new.self in
-    let rd = λ (x : List ℕ). part start ⨾ (λ _. (under_at x free start).not) in
-    let go = λ (u : ℕ → Under). (u start).not m.at in
-    let v = c.in_ok-count_part.ensures in
-    let zero = sym (ap go (under-zero text free c.if-free-eq0.true)) in
-    record { read = tree-err rd (got-then (part start) (λ _. (under_at text free start).not) (got_same v.ran) (got-by zero (got-halt m (Deep start m.at.count)))); moved = search rules }
+    let none : (free ≡ 0 → (under_at text free start).not ≡ deeper start) = λ e. ap (λ (n : ℕ). (under_at text n start).not) e in
+    record { read = rw (f.1, f.2) (tree-err rd (nest-err start free (under_at text free start).not none (got_same c.in_err-left.ensures.ran))); moved = search rules }
 
 pub parse_expr_not-returns-in_err-parse_basic_expr : goal.parse_expr_not-returns-in_err-parse_basic_expr
 parse_expr_not-returns-in_err-parse_basic_expr t c =
@@ -406,13 +395,14 @@ parse_expr_not-returns-in_err-parse_basic_expr t c =
     let text = s.text.now in
     let free = c.args.free in
     let start = c.args.start in
-    let m = view c.count_part.new.self in
     let rd = λ (x : List ℕ). part start ⨾ (λ _. (under_at x free start).not) in
-    let go = λ (u : ℕ → Under). (u start).not m.at in
-    let v = c.in_ok-count_part.ensures in
-    let more = sym (ap go (under_more text free c.if-free-eq0.false)) in
-    let h = halted c.count_part.new.self c.parse_basic_expr.new.self (λ x. basic_at x (free - 1)) (same_text v.kept) c.in_err-parse_basic_expr.ensures.read in
-    record { read = rw (f.1, f.2) (tree-err rd (got-then (part start) (λ _. (under_at text free start).not) (got_same v.ran) (got-by more (got-stop (basic_at text (free - 1)) (λ x. done (Tree.negated x)) h)))); moved = search rules }
+    let m = view c.open_nest.new.self in
+    let n = c.in_ok-left.left in
+    let v = c.in_ok-left.ensures in
+    let o = nest-ok start free n (got_same v.ran) in
+    let more = sym (ap (λ (u : ℕ → Under). (u start).not m.at) (under_more text free n o.0)) in
+    let h = halted c.open_nest.new.self c.parse_basic_expr.new.self (λ x. basic_at x n) (same_text v.kept) c.in_err-parse_basic_expr.ensures.read in
+    record { read = rw (f.1, f.2) (tree-err rd (got-then (part start) (λ _. (under_at text free start).not) o.1 (got-by more (got-stop (basic_at text n) (λ x. done (Tree.negated x)) h)))); moved = search rules }
 
 pub parse_expr_not-returns : goal.parse_expr_not-returns
 parse_expr_not-returns t c =
@@ -420,45 +410,36 @@ parse_expr_not-returns t c =
     let text = s.text.now in
     let free = c.args.free in
     let start = c.args.start in
-    let m = view c.count_part.new.self in
     let rd = λ (x : List ℕ). part start ⨾ (λ _. (under_at x free start).not) in
-    let go = λ (u : ℕ → Under). (u start).not m.at in
-    let v = c.in_ok-count_part.ensures in
-    let more = sym (ap go (under_more text free c.if-free-eq0.false)) in
+    let m = view c.open_nest.new.self in
+    let n = c.in_ok-left.left in
+    let v = c.in_ok-left.ensures in
+    let o = nest-ok start free n (got_same v.ran) in
+    let more = sym (ap (λ (u : ℕ → Under). (u start).not m.at) (under_more text free n o.0)) in
     let h = c.in_ok-parse_basic_expr.ensures in
     let ta = same_text v.kept in
-    let g = grown (λ x. basic_at x (free - 1)) ta h.read in
+    let g = grown (λ x. basic_at x n) ta h.read in
     let b = c.parse_basic_expr.new.self in
     let x = g.tree in
-    let inner = got-then (basic_at text (free - 1)) (λ x. done (Tree.negated x)) g.got (got-done (view b) (Tree.negated x)) in
+    let inner = got-then (basic_at text n) (λ x. done (Tree.negated x)) g.got (got-done (view b) (Tree.negated x)) in
     let all = c.push_reserved.ensures.items ∙ ap (λ (l : List ParsedNode). l ++ (node.Not ∷ [])) (g.nodes ∙ ap (λ (l : List ParsedNode). l ++ nodes_of x) (same_nodes v.kept))
     ∙ append_assoc (held s) (nodes_of x) (node.Not ∷ []) ∙ ap (λ (l : List ParsedNode). held s ++ l) (sym (nodes-negated x)) in
-    record { read = tree-ok rd (got-then (part start) (λ _. (under_at text free start).not) (got_same v.ran) (got-by more inner)) all; moved = search rules }
+    record { read = tree-ok rd (got-then (part start) (λ _. (under_at text free start).not) o.1 (got-by more inner)) all; moved = search rules }
 
-pub parse_parentheses_expr-returns-in_err-count_part : goal.parse_parentheses_expr-returns-in_err-count_part
-parse_parentheses_expr-returns-in_err-count_part t c =
+pub parse_parentheses_expr-parse_expr-requires : goal.parse_parentheses_expr-parse_expr-requires
+parse_parentheses_expr-parse_expr-requires t c =
+    let o = nest-ok c.args.start c.args.free c.in_ok-left.left (got_same c.in_ok-left.ensures.ran) in (omega (arith, o.0, c.decreases), search rules)
+
+pub parse_parentheses_expr-returns-in_err-left : goal.parse_parentheses_expr-returns-in_err-left
+parse_parentheses_expr-returns-in_err-left t c =
     let f = err_from_is_err_and c.from_residual.result c.from_residual.ensures.1 in
     let s = c.args.self.now in
     let text = s.text.now in
     let free = c.args.free in
     let start = c.args.start in
-    let m = view c.count_part.new.self in
     let rd = λ (x : List ℕ). part start ⨾ (λ _. (under_at x free start).group) in
-    let go = λ (u : ℕ → Under). (u start).group m.at in
-    record { read = rw (f.1, f.2) (tree-err rd (got-stop (part start) (λ _. (under_at text free start).group) (got_same c.in_err-count_part.ensures.ran))); moved = search rules }
-
-pub parse_parentheses_expr-returns-then-free-eq0 : goal.parse_parentheses_expr-returns-then-free-eq0
-parse_parentheses_expr-returns-then-free-eq0 t c =
-    let s = c.args.self.now in
-    let text = s.text.now in
-    let free = c.args.free in
-    let start = c.args.start in
-    let m = view c.count_part.new.self in
-    let rd = λ (x : List ℕ). part start ⨾ (λ _. (under_at x free start).group) in
-    let go = λ (u : ℕ → Under). (u start).group m.at in
-    let v = c.in_ok-count_part.ensures in
-    let zero = sym (ap go (under-zero text free c.if-free-eq0.true)) in
-    record { read = tree-err rd (got-then (part start) (λ _. (under_at text free start).group) (got_same v.ran) (got-by zero (got-halt m (Deep start m.at.count)))); moved = search rules }
+    let none : (free ≡ 0 → (under_at text free start).group ≡ deeper start) = λ e. ap (λ (n : ℕ). (under_at text n start).group) e in
+    record { read = rw (f.1, f.2) (tree-err rd (nest-err start free (under_at text free start).group none (got_same c.in_err-left.ensures.ran))); moved = search rules }
 
 pub parse_parentheses_expr-returns-in_err-parse_expr : goal.parse_parentheses_expr-returns-in_err-parse_expr
 parse_parentheses_expr-returns-in_err-parse_expr t c =
@@ -467,13 +448,14 @@ parse_parentheses_expr-returns-in_err-parse_expr t c =
     let text = s.text.now in
     let free = c.args.free in
     let start = c.args.start in
-    let m = view c.count_part.new.self in
     let rd = λ (x : List ℕ). part start ⨾ (λ _. (under_at x free start).group) in
-    let go = λ (u : ℕ → Under). (u start).group m.at in
-    let v = c.in_ok-count_part.ensures in
-    let more = sym (ap go (under_more text free c.if-free-eq0.false)) in
-    let h = halted c.count_part.new.self c.parse_expr.new.self (λ x. or_at x (free - 1)) (same_text v.kept) c.in_err-parse_expr.ensures.read in
-    record { read = rw (f.1, f.2) (tree-err rd (got-then (part start) (λ _. (under_at text free start).group) (got_same v.ran) (got-by more (got-stop (or_at text (free - 1)) (λ x. close_at text ⨾ (λ _. done (Tree.group x))) h)))); moved = search rules }
+    let m = view c.open_nest.new.self in
+    let n = c.in_ok-left.left in
+    let v = c.in_ok-left.ensures in
+    let o = nest-ok start free n (got_same v.ran) in
+    let more = sym (ap (λ (u : ℕ → Under). (u start).group m.at) (under_more text free n o.0)) in
+    let h = halted c.open_nest.new.self c.parse_expr.new.self (λ x. or_at x n) (same_text v.kept) c.in_err-parse_expr.ensures.read in
+    record { read = rw (f.1, f.2) (tree-err rd (got-then (part start) (λ _. (under_at text free start).group) o.1 (got-by more (got-stop (or_at text n) (λ x. close_at text ⨾ (λ _. done (Tree.group x))) h)))); moved = search rules }
 
 pub parse_parentheses_expr-returns : goal.parse_parentheses_expr-returns
 parse_parentheses_expr-returns t c =
@@ -481,19 +463,20 @@ parse_parentheses_expr-returns t c =
     let text = s.text.now in
     let free = c.args.free in
     let start = c.args.start in
-    let m = view c.count_part.new.self in
     let rd = λ (x : List ℕ). part start ⨾ (λ _. (under_at x free start).group) in
-    let go = λ (u : ℕ → Under). (u start).group m.at in
-    let v = c.in_ok-count_part.ensures in
-    let more = sym (ap go (under_more text free c.if-free-eq0.false)) in
+    let m = view c.open_nest.new.self in
+    let n = c.in_ok-left.left in
+    let v = c.in_ok-left.ensures in
+    let o = nest-ok start free n (got_same v.ran) in
+    let more = sym (ap (λ (u : ℕ → Under). (u start).group m.at) (under_more text free n o.0)) in
     let h = c.in_ok-parse_expr.ensures in
     let ta = same_text v.kept in
-    let g = grown (λ x. or_at x (free - 1)) ta h.read in
+    let g = grown (λ x. or_at x n) ta h.read in
     let b = c.parse_expr.new.self in
     let x = g.tree in
     let e = view c.expect_char.new.self in
     let close = got_same (re-at (view b) (λ y. expect y 41 ExpectedCloseParenthesis) (h.moved.text ∙ ta) c.expect_char.ensures.ran) in
-    let inner = got-then (or_at text (free - 1)) (λ x. close_at text ⨾ (λ _. done (Tree.group x))) g.got (got-then (close_at text) (λ _. done (Tree.group x)) close (got-done e (Tree.group x))) in
+    let inner = got-then (or_at text n) (λ x. close_at text ⨾ (λ _. done (Tree.group x))) g.got (got-then (close_at text) (λ _. done (Tree.group x)) close (got-done e (Tree.group x))) in
     let all = c.push_reserved.ensures.items ∙ ap (λ (l : List ParsedNode). l ++ (node.Parens ∷ [])) (same_nodes c.expect_char.ensures.kept ∙ g.nodes ∙ ap (λ (l : List ParsedNode). l ++ nodes_of x) (same_nodes v.kept))
     ∙ append_assoc (held s) (nodes_of x) (node.Parens ∷ []) ∙ ap (λ (l : List ParsedNode). held s ++ l) (sym (nodes-group x)) in
-    record { read = tree-ok rd (got-then (part start) (λ _. (under_at text free start).group) (got_same v.ran) (got-by more inner)) all; moved = search rules }
+    record { read = tree-ok rd (got-then (part start) (λ _. (under_at text free start).group) o.1 (got-by more inner)) all; moved = search rules }
