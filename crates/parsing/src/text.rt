@@ -17,7 +17,7 @@ fn begins_blank(rest: &[u8]) -> bool
     matches!(rest, [b' ' | b'\n', ..] | [b'\r', b'\n', ..])
 }
 
-// The place after the blanks at `from`.
+// The place after the blanks at `from`. It answers a place of the text, so it takes one, and not the rest from there.
 pub(crate) fn blanks_end(text: &[u8], from: usize) -> usize
     requires { from ≤ length text.now }
     ensures value { result ≡ skip text.now from }
@@ -31,7 +31,7 @@ pub(crate) fn blanks_end(text: &[u8], from: usize) -> usize
     text.len() - rest.len()
 }
 
-// The place of the first `)` from `from` on, or else the end.
+// The place of the first `)` from `from` on, or else the end; again a place for a place.
 pub(crate) fn closing_bracket(text: &[u8], from: usize) -> usize
     requires { from ≤ length text.now }
     ensures value { result ≡ closing text.now from }

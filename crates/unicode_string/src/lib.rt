@@ -190,7 +190,7 @@ fn run_length(bytes: &[u8]) -> usize
     bytes.iter().take_while(|b| plain(**b)).count()
 }
 
-// Where the run that begins at `from` ends.
+// Where the run that begins at `from` ends. It answers a place of the text, so it takes one, and not the rest from there.
 fn literal_end(text: &[u8], from: usize) -> usize
     requires { from ≤ length text.now }
     ensures value { result ≡ run_end text.now from }
@@ -320,6 +320,7 @@ fn has_room(text: &[u8], at: usize, count: usize, used: usize) -> bool
 
 // Reads the name at `at`, up to the next `,` or `)` that no backslash escapes. The first reports stand in the table from `count` on,
 // the decoded bytes of a name with an escape in the space from `used` on. Without room for them nothing is read.
+// The table and its count are two parameters, since a caller cannot keep them as one value (see `Source`).
 pub fn parse_string(
     text: &[u8],
     at: usize,

@@ -26,7 +26,7 @@ const WORD: [bool; 256] = [
     false, false, false, false, false, false, false, false, false, false, false, false, false, false, false, false,
 ];
 
-// The value of each hexadecimal digit, and 255 for every other byte.
+// The value of each hexadecimal digit, and 255 for every other byte. That number is this table's form; no other file sees it.
 #[rattlefmt::skip]
 const HEX: [u8; 256] = [
     255, 255, 255, 255, 255, 255, 255, 255, 255, 255, 255, 255, 255, 255, 255, 255,
