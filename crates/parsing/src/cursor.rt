@@ -63,6 +63,8 @@ impl Predicate {
     }
 }
 
+// Each reader asks for `Sound`: five of its facts hold of every cursor, but the room for nodes and reports that a call uses up
+// would still stand in each contract, so that a type which kept the five would shorten none.
 impl Cursor<'_> {
     // Where names lie.
     fn texts(&self) -> Texts<'_>
