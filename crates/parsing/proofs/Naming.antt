@@ -1,5 +1,5 @@
 -- What the reading of a name comes to.
-use Rattle.std.proofs.Common.{◌≡◌, ℕ, zero, suc, ◌+◌, ◌-◌, ◌^◌, ◌≤◌, Bool, true, cond, ltb, leb, List, [], ◌∷◌, length, get_or, Some, None, Ok, Option, sym, refl, ap, ◌∙◌, subst, inl, inr, arith, length-append}
+use Rattle.std.proofs.Common.{◌≡◌, ℕ, zero, suc, ◌+◌, ◌-◌, ◌^◌, ◌≤◌, Bool, true, cond, ltb, leb, List, [], ◌∷◌, length, get_or, Some, None, Ok, Option, vec_len, vec_capacity, Vec, sym, refl, ap, ◌∙◌, subst, inl, inr, arith, length-append}
 use lib.Seq.{sets}
 use Rattle.std.proofs.lemmas.Bool.{cases_eq, cases_Bool, le-leb, lt-ltb, eq-eqb, ne_eqb}
 use Rattle.std.specs.Option.{option_or}
@@ -14,9 +14,11 @@ use Rattle.unicode_string.proofs.Frags.{frag-moves, more_within, run-within, run
 use Rattle.unicode_string.proofs.Loops.{frags-end, frags-more}
 use Rattle.unicode_string.proofs.Naming.{name-escape, name-plain, whole-none, whole-some}
 use Rattle.unicode_string.proofs.Sound.{sound-names}
+use Rattle.std.specs.declared.alloc.Global.{Global}
+use Rattle.parsing.specs.declared.nodes.ParsedNode.{ParsedNode}
 use Rattle.parsing.specs.declared.cursor.Cursor.{Cursor}
 use Rattle.parsing.specs.Reading.{called_as, called, text_at}
-use Rattle.parsing.specs.View.{St, grow, Sound, Spelt, name_only}
+use Rattle.parsing.specs.View.{St, grow, Sound, Moved, Spelt, name_only}
 
 -- how far a name goes, against its bytes and reports
 pub record Far (t : List ℕ) (p : ℕ) (o : names.Out) : Type 0 where
@@ -60,6 +62,22 @@ has_room_lem {k} {m} c s h =
     let b : leb (c.used + (n - c.pos)) 1024 ≡ true = le-leb (c.used + (n - c.pos)) 1024 (omega (arith, s.short, s.within, s.space)) in
     let d : ltb (c.count + (n - c.pos) + 1) (2 ^ 64) ≡ true = lt-ltb (c.count + (n - c.pos) + 1) (2 ^ 64) (omega (arith, s.short, s.within, s.few)) in
     rw (a, b, d) refl
+
+-- the bounds after a name
+pub moved-name : {k m : ℕ} {c d : Cursor} {o : names.Out} → Sound k m c → Far c.text.now c.pos o → d.text.now ≡ c.text.now → d.parts ≡ c.parts → d.nodes.now ≡ c.nodes.now →
+    d.pos ≡ o.at → d.count ≡ c.count + length o.reports → d.used ≡ c.used + length o.bytes → Moved 0 1 0 c d
+moved-name {k} {m} {c} {d} {o} s far text parts nodes pos count used =
+    let n : vec_len d.nodes.now ≡ vec_len c.nodes.now = ap (λ (v : Vec ParsedNode Global). vec_len v) nodes in
+    record {
+      text = text;
+      on = omega (arith, pos, far.on);
+      within = omega (arith, pos, far.within);
+      cap = ap (λ (v : Vec ParsedNode Global). vec_capacity v) nodes;
+      made = omega (arith, n, parts);
+      crowd = omega (arith, parts, s.crowd);
+      few = omega (arith, pos, count, far.reports, far.on);
+      space = omega (arith, pos, used, far.bytes);
+    }
 
 -- what the call answers where there is room
 abbrev pub all_read : List ℕ → ℕ → ℕ → ℕ → NameRead

@@ -21,7 +21,6 @@ use expression::name_matcher::MatchKind;
 use expression::queries::BuildPlatform;
 use glob::place::Place;
 use glob::well_formed;
-use std::mem::replace;
 use unicode_string::{Name, Texts, is_at, parse_string};
 
 // At most so many parts are read: sets, brackets, not signs and joining signs.
@@ -161,12 +160,9 @@ impl Cursor<'_> {
         ensures moved { Moved 0 1 0 self.old self.new }
     {
         let start = self.pos;
-        let count = self.count;
-        let used = self.used;
-        // The table is out of the cursor for this call, which is lent the space at the same time.
-        let table = replace(&mut self.table, &mut []);
-        let read = parse_string(self.text, start, table, count, self.space, used);
-        self.table = table;
+        let read = parse_string(
+            self.text, start, self.table, self.count, self.space, self.used,
+        );
         let Some(read) = read else { unreachable() };
         self.pos = read.end;
         self.count = read.count;

@@ -1,11 +1,9 @@
-use Rattle.std.proofs.Common.{List, Ok, Option, sym, refl, ap, ◌∙◌, subst, arith, MutBor, rules}
-use lib.Seq.{sets}
+use Rattle.std.proofs.Common.{Ok, Option, sym, refl, ap, ◌∙◌, subst, arith, rules}
 use Rattle.unicode_string.specs.declared.NameRead.{NameRead}
-use Rattle.errors.specs.declared.reports.Report.{Report}
-use Rattle.unicode_string.specs.Names.{name_at, out_at}
+use Rattle.unicode_string.specs.Names.{name_at}
 use Rattle.parsing.specs.Reading.{Called, text_at}
 use Rattle.parsing.specs.View.{view, Spelt, name_only}
-use Rattle.parsing.proofs.Naming.{name-far, has_room_lem, read_all, read_some, text-state, name-empty, name-full, only-name, empty-spelt, full-spelt}
+use Rattle.parsing.proofs.Naming.{name-far, moved-name, has_room_lem, read_all, read_some, text-state, name-empty, name-full, only-name, empty-spelt, full-spelt}
 use Rattle.parsing.proofs.cursor.Cursor.parse_matcher_text.Goals as goal
 
 pub unreachable-requires : goal.unreachable-requires
@@ -27,23 +25,12 @@ returns-then-read-start c =
     let end = ap (λ (r : NameRead). r.end) is in
     let count = ap (λ (r : NameRead). r.count) is in
     let used = ap (λ (r : NameRead). r.used) is in
-    let same-table = c.replace-table.ensures.value in
-    let table = h.reports ∙ ap (λ (r : MutBor (List Report)). sets r.now s.at.count (out_at t p s.at.count s.at.used).reports) same-table in
     let em = name-empty t p s.at.used (sym end ∙ c.if-read-start.true) in
     record {
       bytes = subst (λ (x : Option Called). Spelt t sp (Ok x)) em (empty-spelt t sp p c.requires.within);
-      ran = record { state = text-state s c.in-Some.read c.or-self.result c.parse_string-read.new.reports sp _ ok is c.or-self.ensures table h.space (ap (λ (r : MutBor (List Report)). r.ghost_name) same-table); result = ap (λ (x : Option Called). Ok (name_only x)) em };
+      ran = record { state = text-state s c.in-Some.read c.or-self.result c.parse_string-read.new.reports sp _ ok is c.or-self.ensures h.reports h.space refl; result = ap (λ (x : Option Called). Ok (name_only x)) em };
       kept = search rules;
-      moved = record {
-        text = refl;
-        on = omega (arith, end, far.on);
-        within = omega (arith, end, far.within);
-        cap = refl;
-        made = omega arith;
-        crowd = c.requires.crowd;
-        few = omega (arith, end, count, far.reports, far.on);
-        space = omega (arith, end, used, far.bytes);
-      };
+      moved = moved-name c.requires far refl refl refl end count used;
     }
 
 pub returns : goal.returns
@@ -60,21 +47,10 @@ returns c =
     let end = ap (λ (r : NameRead). r.end) is in
     let count = ap (λ (r : NameRead). r.count) is in
     let used = ap (λ (r : NameRead). r.used) is in
-    let same-table = c.replace-table.ensures.value in
-    let table = h.reports ∙ ap (λ (r : MutBor (List Report)). sets r.now s.at.count (out_at t p s.at.count s.at.used).reports) same-table in
     let em = name-full t p s.at.used (λ e. c.if-read-start.false (end ∙ e)) in
     record {
       bytes = subst (λ (x : Option Called). Spelt t sp (Ok x)) em (full-spelt t sp p s.at.count s.at.used c.in-Some.read c.requires.within is h.meant);
-      ran = record { state = text-state s c.in-Some.read c.or-self.result c.parse_string-read.new.reports sp _ ok is c.or-self.ensures table h.space (ap (λ (r : MutBor (List Report)). r.ghost_name) same-table); result = ap Ok (ap (λ (r : NameRead). r.name) is ∙ only-name t (name_at t p s.at.used).out (name_at t p s.at.used).name) ∙ ap (λ (x : Option Called). Ok (name_only x)) em };
+      ran = record { state = text-state s c.in-Some.read c.or-self.result c.parse_string-read.new.reports sp _ ok is c.or-self.ensures h.reports h.space refl; result = ap Ok (ap (λ (r : NameRead). r.name) is ∙ only-name t (name_at t p s.at.used).out (name_at t p s.at.used).name) ∙ ap (λ (x : Option Called). Ok (name_only x)) em };
       kept = search rules;
-      moved = record {
-        text = refl;
-        on = omega (arith, end, far.on);
-        within = omega (arith, end, far.within);
-        cap = refl;
-        made = omega arith;
-        crowd = c.requires.crowd;
-        few = omega (arith, end, count, far.reports, far.on);
-        space = omega (arith, end, used, far.bytes);
-      };
+      moved = moved-name c.requires far refl refl refl end count used;
     }
