@@ -1,7 +1,7 @@
 -- A source as a plain state, and what a reading makes of it.
-use Rattle.std.specs.Prelude.{◌≡◌, ℕ, ◌+◌, ◌-◌, ◌^◌, ◌<◌, ◌≤◌, List, length, Option}
+use Rattle.std.specs.Prelude.{◌≡◌, ℕ, ◌+◌, List, length, Option}
 use Rattle.std.proofs.lemmas.List.Edits.{sets}
-use Rattle.unicode_string.specs.declared.Source.{Source}
+use Rattle.unicode_string.specs.declared.source.Source.{Source}
 use Rattle.unicode_string.specs.declared.decoded.Decoded.{Decoded}
 use Rattle.errors.specs.declared.reports.Report.{Report}
 use Rattle.unicode_string.specs.Names.{Out}
@@ -27,12 +27,6 @@ grow s o = record { text = s.text; pos = o.at; count = s.count + length o.report
 -- the reading o leads from s to e
 pub record Ran (s : St) (o : Out) (e : St) : Type 0 where
   pub state : e ≡ grow s o
-
--- the decoding space has room for the bytes that are left, and the count for as many reports and one more
-pub record Roomy (s : St) : Type 0 where
-  pub within : s.pos ≤ length s.text
-  pub room : s.used + (length s.text - s.pos) ≤ 1024
-  pub few : s.count + (length s.text - s.pos) + 1 < 2 ^ 64
 
 -- the decoding space alone: its bytes, how many are used, and whose it is
 pub record Filling : Type 0 where

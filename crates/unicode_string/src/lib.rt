@@ -10,17 +10,18 @@ ghost use Rattle.std.proofs.Math.Utf8.{encode, scalar};
 ghost use Rattle.std.specs.Option.{option_map};
 ghost use Rattle.std.specs.List.{prefix_len};
 ghost use Rattle.glob.specs.Parts.{part_of};
-ghost use Rattle.unicode_string.specs.Names.{frag_at, frags_at, name_at, moved, bytes_of, Scalar, more, bytes_in, place_of, out_at, has_room, read_at, note};
+ghost use Rattle.unicode_string.specs.Names.{bytes_in, place_of, out_at, has_room, read_at};
 ghost use Rattle.unicode_string.specs.Grammar.{Meant};
-ghost use Rattle.unicode_string.specs.View.{view, Ran, Roomy};
 ghost use Rattle.unicode_string.specs.Text.{is_plain, run_end, is_at, letter_of, digit_of, digits_at, unicode_at, escape_at};
 
 use decoded::Decoded;
-use errors::reports::{Report, ReportKind};
+use errors::reports::Report;
 use glob::place::Place;
+use source::Source;
 use tables::hex_value;
 
 mod decoded;
+mod source;
 pub mod tables;
 
 // A name is a part of the text itself or, with an escape in it, of the decoding space.
@@ -53,18 +54,6 @@ pub struct NameRead {
     pub count: usize,
     pub used: usize,
     pub first: Option<usize>,
-}
-
-// A text that is read: the place to go on at, the reports made on it, and what was decoded from it.
-// The lent table lies in it directly: within a struct of its own the check loses what the table holds at the end.
-#[derive(Drop)]
-struct Source<'t, 'r, 'd> {
-    text: &'t [u8],
-    pos: usize,
-    table: &'r mut [Report],
-    count: usize,
-    first: Option<usize>,
-    decoded: Decoded<'d>,
 }
 
 // A run of text, or one decoded character as its code point.
@@ -198,113 +187,6 @@ fn literal_end(text: &[u8], from: usize) -> usize
     ensures within { result ≤ length text.now }
 {
     from + run_length(&text[from..])
-}
-
-impl<'t> Source<'t, '_, '_> {
-    fn report(&mut self, kind: ReportKind, start: usize, length: usize)
-        requires { self.old.count + 1 < 2 ^ 64 }
-        ensures { Ran (view self.old) (note (record { kind = kind; start = start; length = length }) self.old.pos) (view self.new) }
-    {
-        let report = Report {
-            kind,
-            start,
-            length,
-        };
-        report.keep(self.table, self.count);
-        self.first = self.first.or(Some(start));
-        self.count += 1;
-    }
-
-    // Whether a name goes on here.
-    fn more(&self) -> bool
-        ensures { result ≡ more self.now.text.now self.now.pos }
-    {
-        match self.text.get(self.pos) {
-            Some(b) => *b != b',' && *b != b')',
-            None => false,
-        }
-    }
-
-    // The fragment that begins here. An invalid escape is reported.
-    fn parse_fragment(&mut self) -> Option<StringFragment<'t>>
-        requires here { more self.old.text.now self.old.pos ≡ true }
-        requires few { self.old.count + 1 < 2 ^ 64 }
-        ensures ran { Ran (view self.old) (moved (frag_at self.old.text.now self.old.pos)) (view self.new) }
-        ensures value { bytes_of result ≡ (frag_at self.old.text.now self.old.pos).bytes }
-        ensures good { Scalar result }
-    {
-        let start = self.pos;
-        if plain(self.text[start]) {
-            let text = self.text;
-            self.pos = literal_end(text, start);
-            return Some(StringFragment::Literal(&text[start..self.pos]));
-        }
-        match parse_escaped_char(self.text, start + 1) {
-            Some(e) => {
-                self.pos = e.next;
-                Some(StringFragment::EscapedChar(e.code))
-            }
-            None => {
-                self.pos = start + 1;
-                let length = (self.text.len() - start).min(2);
-                self.report(ReportKind::InvalidEscapeCharacter, start, length);
-                None
-            }
-        }
-    }
-
-    // Takes a fragment into the decoding space.
-    fn piece(&mut self)
-        requires here { more self.old.text.now self.old.pos ≡ true }
-        requires room { Roomy (view self.old) }
-        ensures { Ran (view self.old) (frag_at self.old.text.now self.old.pos) (view self.new) }
-    {
-        match self.parse_fragment() {
-            Some(StringFragment::Literal(s)) => self.decoded.put_all(s),
-            Some(StringFragment::EscapedChar(code)) => self.decoded.put_char(code),
-            None => {}
-        }
-    }
-
-    // Takes all fragments that follow into the decoding space.
-    fn decode(&mut self)
-        requires { Roomy (view self.old) }
-        ensures { Ran (view self.old) (frags_at self.old.text.now (length self.old.text.now) self.old.pos) (view self.new) }
-    {
-        while self.more() {
-            self.piece();
-        }
-    }
-
-    fn parse_name(&mut self) -> Option<Name>
-        requires { Roomy (view self.old) }
-        ensures ran { Ran (view self.old) (name_at self.old.text.now self.old.pos self.old.decoded.used).out (view self.new) }
-        ensures found { result ≡ (name_at self.old.text.now self.old.pos self.old.decoded.used).name }
-    {
-        let start = self.pos;
-        let end = literal_end(self.text, start);
-        if is_at(self.text, end, b'\\') {
-            let from = self.decoded.used;
-            let before = self.count;
-            self.decode();
-            if self.count > before {
-                return None;
-            }
-            return Some(Name::InSpace(Place {
-                start: from,
-                length: self.decoded.used - from,
-            }));
-        }
-        self.pos = end;
-        if end == start {
-            self.report(ReportKind::InvalidString, end, 0);
-            return None;
-        }
-        Some(Name::InText(Place {
-            start,
-            length: end - start,
-        }))
-    }
 }
 
 // Whether there is room for what the bytes from `at` on can make, in the decoding space and in the count.

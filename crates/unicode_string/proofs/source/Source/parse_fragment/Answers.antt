@@ -1,10 +1,10 @@
-use Rattle.std.proofs.Common.{ℕ, ◌+◌, ◌-◌, take, drop, sym, ap, ◌∙◌, subst}
+use Rattle.std.proofs.Common.{ℕ, ◌+◌, ◌-◌, take, drop, sym, ap, ◌∙◌, subst, arith}
 use Rattle.errors.specs.declared.reports.ReportKind.TheVariants.{InvalidEscapeCharacter}
 use Rattle.unicode_string.specs.Names.{Out, note, moved, frag_at}
 use Rattle.unicode_string.specs.View.{view, Ran}
 use Rattle.unicode_string.proofs.Runs.{ran-moved}
 use Rattle.unicode_string.proofs.Frags.{frag-plain, frag-escape, escape-sized}
-use Rattle.unicode_string.proofs.Source.parse_fragment.Goals as goal
+use Rattle.unicode_string.proofs.source.Source.parse_fragment.Goals as goal
 
 pub returns-then-plain : goal.returns-then-plain
 returns-then-plain c =
@@ -17,6 +17,11 @@ returns-then-plain c =
       value = ap (λ (n : ℕ). take (n - p) (drop p t)) q ∙ ap (λ (o : Out). o.bytes) e;
       good = tt;
     }
+
+pub invariant_of-self-in-Some : goal.invariant_of-self-in-Some
+invariant_of-self-in-Some c =
+    let v = escape-sized c.args.self.now.text.now (c.args.self.now.pos + 1) c.in-Some.e (sym c.parse_escaped_char.ensures ∙ c.in-Some.is) in
+    record { within = v.within; room = omega (arith, c.args.self.now.room, v.on, v.within); few = omega (arith, c.args.self.now.few, v.on, v.within) }
 
 pub returns-in-Some : goal.returns-in-Some
 returns-in-Some c =

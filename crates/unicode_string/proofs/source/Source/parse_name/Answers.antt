@@ -4,7 +4,7 @@ use Rattle.unicode_string.specs.View.{view, Ran}
 use Rattle.unicode_string.proofs.Runs.{move_to, count-is, used-is}
 use Rattle.unicode_string.proofs.Escapes.{at-is, not_at}
 use Rattle.unicode_string.proofs.Naming.{name-escape, name-plain, whole-none, whole-some, found_none, found_some}
-use Rattle.unicode_string.proofs.Source.parse_name.Goals as goal
+use Rattle.unicode_string.proofs.source.Source.parse_name.Goals as goal
 
 pub returns-then-self-before : goal.returns-then-self-before
 returns-then-self-before c =
