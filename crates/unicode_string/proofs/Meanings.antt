@@ -1,14 +1,13 @@
 -- A name as a part of the text or of the decoding space.
-use Rattle.std.proofs.Common.{◌≡◌, ℕ, zero, suc, ◌+◌, ◌-◌, ◌<◌, ◌≤◌, Bool, true, cond, List, ◌++◌, length, get_or, take, drop, Some, None, Option, sym, refl, ap, ◌∙◌, subst, inl, inr, append_assoc, arith, length-append, length-take-le, take_at, drop_at}
+use Rattle.std.proofs.Common.{◌≡◌, ℕ, zero, suc, ◌+◌, ◌-◌, ◌<◌, ◌≤◌, Bool, true, cond, List, ◌++◌, length, get_or, take, drop, Some, None, sym, refl, ap, ◌∙◌, subst, inl, inr, append_assoc, arith, length-append, length-take-le, take_at, drop_at}
 use lib.Seq.{sets, sets-eq, length-sets}
 use Rattle.std.proofs.lemmas.Bool.{cases_eq, cases_Bool, eq-eqb, le-leb}
 use Rattle.std.proofs.lemmas.Bool.Decides.{nat_tests}
-use Rattle.errors.specs.declared.reports.Report.{Report}
 use Rattle.glob.specs.Parts.{part_of}
 use Rattle.unicode_string.specs.declared.Name.{Name}
 use Rattle.unicode_string.specs.declared.NameRead.{NameRead}
 use Rattle.unicode_string.specs.Text.{run_end}
-use Rattle.unicode_string.specs.Names.{spelt, in_space, in_text, Out, Named, done, whole, decoded, more, frag_at, frags_at, name_at, bytes_in, has_room, out_at, read_at, first_start}
+use Rattle.unicode_string.specs.Names.{spelt, in_space, in_text, Out, Named, done, whole, decoded, more, frag_at, frags_at, name_at, bytes_in, has_room}
 use Rattle.unicode_string.specs.Grammar.{Spells, Meant}
 use Rattle.unicode_string.proofs.Frags.{frag-moves, more_within, run-within, run-from}
 use Rattle.unicode_string.proofs.Loops.{frags-end, frags-more}
@@ -113,18 +112,3 @@ meant t s e p c u r ok size name end count space =
       text = λ j b w g x. text-names t p j b w g x;
       told = λ f. omega (arith, told t p u (sym name ∙ f), count);
     }
-
-module _ (t : List ℕ) (p c u : ℕ) (ok : has_room t p c u ≡ true) where
-  room_out : (name_at t p u).out ≡ out_at t p c u
-  room_out = sym (ap (λ (b : Bool). cond b (name_at t p u).out (done p)) ok)
-
-  pub read_is : {n : Option Name} {e k v : ℕ} {f : Option ℕ} → n ≡ (name_at t p u).name → e ≡ (name_at t p u).out.at → k ≡ c + length (name_at t p u).out.reports → v ≡ u + length (name_at t p u).out.bytes → f ≡ first_start None (name_at t p u).out.reports → Some (record { name = n; end = e; count = k; used = v; first = f }) ≡ read_at t p c u
-  read_is {n} {e} {k} {v} {f} name end count used first =
-      let all : NameRead = record { name = (name_at t p u).name; end = (name_at t p u).out.at; count = c + length (name_at t p u).out.reports; used = u + length (name_at t p u).out.bytes; first = first_start None (name_at t p u).out.reports } in
-      rw (name, end, count, used, first) (sym (ap (λ (b : Bool). cond b (Some all) None) ok))
-
-  pub reports-are : (l e : List Report) → e ≡ sets l c (name_at t p u).out.reports → e ≡ sets l c (out_at t p c u).reports
-  reports-are l e h = h ∙ ap (λ (o : Out). sets l c o.reports) room_out
-
-  pub bytes-are : (l e : List ℕ) → e ≡ sets l u (name_at t p u).out.bytes → e ≡ sets l u (out_at t p c u).bytes
-  bytes-are l e h = h ∙ ap (λ (o : Out). sets l u o.bytes) room_out
