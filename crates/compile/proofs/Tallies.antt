@@ -7,7 +7,7 @@ use Rattle.std.proofs.lemmas.List.{take_more, flat_map_more}
 use Rattle.errors.specs.declared.reports.Report.{Report}
 use Rattle.errors.specs.declared.reports.ReportKind.{ReportKind}
 use Rattle.glob.specs.declared.place.Place.{Place}
-use Rattle.unicode_string.specs.Names.{first_start}
+use Rattle.errors.specs.Reports.{first_start}
 use Rattle.compile.specs.declared.reports.Tally.{Tally}
 use Rattle.compile.specs.Reports.{note_if, tallied, no_reports}
 

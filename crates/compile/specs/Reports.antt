@@ -3,7 +3,7 @@ use Rattle.std.specs.Prelude.{◌+◌, Bool, cond, List, [], ◌∷◌, length, 
 use Rattle.errors.specs.declared.reports.Report.{Report}
 use Rattle.errors.specs.declared.reports.ReportKind.{ReportKind}
 use Rattle.glob.specs.declared.place.Place.{Place}
-use Rattle.unicode_string.specs.Names.{first_start}
+use Rattle.errors.specs.Reports.{first_start}
 use Rattle.compile.specs.declared.reports.Tally.{Tally}
 
 -- a report on a part of the text, where something is wrong there
