@@ -1,5 +1,6 @@
 -- What each node of a reading is lowered to: nodes of the filter, names that it keeps, and reports.
 use Rattle.std.specs.Prelude.{◌≡◌, ℕ, ◌+◌, Bool, not, List, [], ◌∷◌, ◌++◌, length}
+use Rattle.std.specs.List.{list_any}
 use Rattle.errors.specs.Reports.{Log}
 use Rattle.errors.specs.declared.reports.Report.{Report}
 use Rattle.errors.specs.declared.reports.ReportKind.TheVariants.{NoPackageMatch, NoGroupMatch, NoBinaryIdMatch, NoBinaryNameMatch}
@@ -20,7 +21,7 @@ use Rattle.compile.specs.declared.matching.BinaryField.{BinaryField}
 use Rattle.compile.specs.declared.matching.BinaryField.TheVariants.{Id, Name}
 use Rattle.compile.specs.declared.matching.Direction.{Direction}
 use Rattle.compile.specs.declared.matching.Direction.TheVariants.{Dependencies, Dependents}
-use Rattle.compile.specs.Numbers.{numbers_of, groups_of, reached, some, field_of}
+use Rattle.compile.specs.Numbers.{numbers_of, groups_of, reached, field_of}
 use Rattle.compile.specs.Reports.{note_if, logged}
 use Rattle.compile.specs.World.{World, fits}
 
@@ -38,7 +39,7 @@ groups_by w k v = groups_of (fits w k v) w.tables.groups
 
 -- some binary's id or name is taken
 abbrev pub has_binary : World → BinaryField → MatchKind → List ℕ → Bool
-has_binary w field k v = some (λ b. fits w k v (field_of field b)) w.tables.binaries
+has_binary w field k v = list_any (λ b. fits w k v (field_of field b)) w.tables.binaries
 
 -- a name that the filter keeps, after u bytes of others
 abbrev pub own : ℕ → MatchKind → List ℕ → OwnName

@@ -13,17 +13,14 @@ ghost use Rattle.compile.specs.World.{world};
 ghost use Rattle.parsing.specs.Tree.{Tree, postfix};
 ghost use Rattle.errors.specs.declared.faults.LoweringFault.TheVariants.{NothingFound};
 ghost use Rattle.compile.specs.Words.{named, leaf_of, word_of};
-ghost use Rattle.compile.specs.Lowered.{packages_of, near_of, groups_by, has_binary, own, matched_leaf, matched_name, matched_note, leaf_for, name_for, note_for, signs, sign_size, emits, copies, notes, size, sizes, emitted, copied, noted, state, Lowers};
+ghost use Rattle.compile.specs.Lowered.{has_binary, own, matched_leaf, matched_name, matched_note, leaf_for, name_for, note_for, signs, sign_size, emits, copies, notes, size, sizes, emitted, copied, noted, state, Lowers};
 
 use crate::filter::{Filter, FilterLeaf, FilterNames, FilterNodes, OwnName};
 use crate::ground::Ground;
 use crate::kinds::{FiltersetKind, check_bans, check_groups, leftmost_group};
-use crate::matching::{
-    BinaryField, Direction, has_binary, matching_groups, matching_names, reached_from,
-};
+use crate::matching::{BinaryField, Direction, Wanted};
 use errors::faults::LoweringFault;
 use errors::reports::{Report, ReportKind, Reports};
-use expression::name_matcher::MatchKind;
 use expression::nodes::Node;
 use expression::number_set::NumberSet;
 use expression::oracle::DependencyOracle;
@@ -32,12 +29,13 @@ use glob::place::Place;
 use parsing::nodes::{NameMatcher, Operator, ParsedLeaf, ParsedNode, Predicate};
 
 // Copies a name behind those that are kept.
-fn keep(kind: MatchKind, value: &[u8], names: &mut Vec<u8>) -> OwnName
-    requires { vec_len names.old + length value.now ≤ vec_capacity names.old }
-    ensures place { result ≡ own (length names.old.items) kind value.now }
-    ensures names { names.new.items ≡ names.old.items ++ value.now }
+fn keep(wanted: Wanted<'_>, names: &mut Vec<u8>) -> OwnName
+    requires { vec_len names.old + length wanted.value.now ≤ vec_capacity names.old }
+    ensures place { result ≡ own (length names.old.items) wanted.entry.kind wanted.entry.value.now }
+    ensures names { names.new.items ≡ names.old.items ++ wanted.entry.value.now }
     ensures capacity { vec_capacity names.old ≤ vec_capacity names.new }
 {
+    let Wanted { kind, value } = wanted;
     let place = Place {
         start: names.len(),
         length: value.len(),
@@ -75,65 +73,19 @@ fn lower_operator(operator: Operator, nodes: &mut Vec<Node<FilterLeaf>>)
 }
 
 impl<M: Matcher, O: DependencyOracle> Ground<'_, M, O> {
-    // The packages whose name is taken.
-    fn packages(&self, kind: MatchKind, value: &[u8]) -> NumberSet
-        ensures { result.words ≡ packages_of (world M.matches O.depends self.now) kind value.now }
-    {
-        matching_names(
-            self.matcher,
-            kind,
-            value,
-            self.tables.names,
-            self.tables.packages,
-        )
-    }
-
-    // The packages that these depend on, or that depend on them.
-    fn near(&self, way: Direction, kind: MatchKind, value: &[u8]) -> NumberSet
-        ensures { result.words ≡ near_of (world M.matches O.depends self.now) way kind value.now }
-    {
-        let set = self.packages(kind, value);
-        reached_from(self.oracle, way, set, self.tables.packages.len())
-    }
-
-    // The groups whose name is taken.
-    fn groups(&self, kind: MatchKind, value: &[u8]) -> NumberSet
-        ensures { result.words ≡ groups_by (world M.matches O.depends self.now) kind value.now }
-    {
-        match self.tables.groups {
-            Some(rows) => matching_groups(self.matcher, kind, value, self.tables.names, rows),
-            None => NumberSet::new(),
-        }
-    }
-
-    // Whether some binary's id or name is taken.
-    fn has_binary(&self, field: BinaryField, kind: MatchKind, value: &[u8]) -> bool
-        ensures { result ≡ has_binary (world M.matches O.depends self.now) field kind value.now }
-    {
-        has_binary(
-            self.matcher,
-            kind,
-            value,
-            self.tables.names,
-            field,
-            self.tables.binaries,
-        )
-    }
-
     // Makes a report where no binary's id or name is taken.
     fn note_binary(
         &self,
         field: BinaryField,
-        kind: MatchKind,
-        value: &[u8],
-        report: ReportKind,
+        wanted: Wanted<'_>,
+        kind: ReportKind,
         span: Place,
         reports: &mut Reports<'_>,
     )
-        ensures { log reports.new ≡ logged (log reports.old) (note_if (not (has_binary (world M.matches O.depends self.now) field kind value.now)) report span) }
+        ensures { log reports.new ≡ logged (log reports.old) (note_if (not (has_binary (world M.matches O.depends self.now) field wanted.entry.kind wanted.entry.value.now)) kind span) }
     {
-        if !self.has_binary(field, kind, value) {
-            reports.report(report, span.start, span.length);
+        if !self.has_binary(field, wanted) {
+            reports.report(kind, span.start, span.length);
         }
     }
 
@@ -141,45 +93,44 @@ impl<M: Matcher, O: DependencyOracle> Ground<'_, M, O> {
     fn lower_matched(
         &self,
         predicate: Predicate,
-        kind: MatchKind,
-        value: &[u8],
+        wanted: Wanted<'_>,
         span: Place,
         names: &mut Vec<u8>,
         reports: &mut Reports<'_>,
     ) -> FilterLeaf
-        requires { vec_len names.old + length (matched_name predicate value.now) ≤ vec_capacity names.old }
-        ensures leaf { result ≡ matched_leaf (world M.matches O.depends self.now) (length names.old.items) predicate kind value.now }
-        ensures names { names.new.items ≡ names.old.items ++ matched_name predicate value.now }
+        requires { vec_len names.old + length (matched_name predicate wanted.value.now) ≤ vec_capacity names.old }
+        ensures leaf { result ≡ matched_leaf (world M.matches O.depends self.now) (length names.old.items) predicate wanted.entry.kind wanted.entry.value.now }
+        ensures names { names.new.items ≡ names.old.items ++ matched_name predicate wanted.entry.value.now }
         ensures capacity { vec_capacity names.old ≤ vec_capacity names.new }
-        ensures log { log reports.new ≡ logged (log reports.old) (matched_note (world M.matches O.depends self.now) predicate kind value.now span) }
+        ensures log { log reports.new ≡ logged (log reports.old) (matched_note (world M.matches O.depends self.now) predicate wanted.entry.kind wanted.entry.value.now span) }
     {
         match predicate {
             Predicate::Package => {
-                let set = self.packages(kind, value);
+                let set = self.packages(wanted);
                 FilterLeaf::Packages(found(set, ReportKind::NoPackageMatch, span, reports))
             }
             Predicate::Deps => {
-                let set = self.near(Direction::Dependencies, kind, value);
+                let set = self.near(Direction::Dependencies, wanted);
                 FilterLeaf::Packages(found(set, ReportKind::NoPackageMatch, span, reports))
             }
             Predicate::Rdeps => {
-                let set = self.near(Direction::Dependents, kind, value);
+                let set = self.near(Direction::Dependents, wanted);
                 FilterLeaf::Packages(found(set, ReportKind::NoPackageMatch, span, reports))
             }
-            Predicate::Kind => FilterLeaf::Kind(keep(kind, value, names)),
+            Predicate::Kind => FilterLeaf::Kind(keep(wanted, names)),
             Predicate::BinaryId => {
-                let report = ReportKind::NoBinaryIdMatch;
-                self.note_binary(BinaryField::Id, kind, value, report, span, reports);
-                FilterLeaf::BinaryId(keep(kind, value, names))
+                let kind = ReportKind::NoBinaryIdMatch;
+                self.note_binary(BinaryField::Id, wanted, kind, span, reports);
+                FilterLeaf::BinaryId(keep(wanted, names))
             }
             Predicate::Binary => {
-                let report = ReportKind::NoBinaryNameMatch;
-                self.note_binary(BinaryField::Name, kind, value, report, span, reports);
-                FilterLeaf::Binary(keep(kind, value, names))
+                let kind = ReportKind::NoBinaryNameMatch;
+                self.note_binary(BinaryField::Name, wanted, kind, span, reports);
+                FilterLeaf::Binary(keep(wanted, names))
             }
-            Predicate::Test => FilterLeaf::Test(keep(kind, value, names)),
+            Predicate::Test => FilterLeaf::Test(keep(wanted, names)),
             Predicate::Group => {
-                let set = self.groups(kind, value);
+                let set = self.groups(wanted);
                 FilterLeaf::Groups(found(set, ReportKind::NoGroupMatch, span, reports))
             }
         }
@@ -201,7 +152,7 @@ impl<M: Matcher, O: DependencyOracle> Ground<'_, M, O> {
             ParsedLeaf::Matched(predicate, matcher, span) => {
                 let NameMatcher { kind, name } = matcher;
                 let value = self.name_of(name);
-                self.lower_matched(predicate, kind, value, span, names, reports)
+                self.lower_matched(predicate, Wanted { kind, value }, span, names, reports)
             }
             ParsedLeaf::Platform(platform, _) => FilterLeaf::Platform(platform),
             ParsedLeaf::Default(_) => FilterLeaf::Default,
