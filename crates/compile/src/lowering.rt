@@ -219,11 +219,11 @@ impl<M: Matcher, O: DependencyOracle> Ground<'_, M, O> {
         requires names { length (copied (map (word_of self.now) parsed.now)) ≤ 1024 }
         ensures log { log reports.new ≡ logged (log reports.old) (noted (world M.matches O.depends self.now) (map (word_of self.now) parsed.now)) }
         ensures nodes { nodes.new.items.items ≡ emitted (world M.matches O.depends self.now) 0 (map (word_of self.now) parsed.now) }
-        ensures names { names.new.bytes.items ≡ copied (map (word_of self.now) parsed.now) }
+        ensures names { names.new.items.items ≡ copied (map (word_of self.now) parsed.now) }
     {
         nodes.items.clear();
-        names.bytes.clear();
-        self.lower_nodes(parsed, &mut nodes.items, &mut names.bytes, reports);
+        names.items.clear();
+        self.lower_nodes(parsed, &mut nodes.items, &mut names.items, reports);
     }
 
     // Lowers nodes into a filter, and refuses them if some find nothing.
@@ -239,7 +239,7 @@ impl<M: Matcher, O: DependencyOracle> Ground<'_, M, O> {
         ensures table { reports.new ≡ sets reports.old 0 (noted (world M.matches O.depends self.now) (map (word_of self.now) parsed.now)) }
         ensures answer { result ≡ answer (fault_by NothingFound (noted (world M.matches O.depends self.now) (map (word_of self.now) parsed.now))) }
         ensures nodes { filter.new.nodes.items.items ≡ emitted (world M.matches O.depends self.now) 0 (map (word_of self.now) parsed.now) }
-        ensures names { filter.new.names.bytes.items ≡ copied (map (word_of self.now) parsed.now) }
+        ensures names { filter.new.names.items.items ≡ copied (map (word_of self.now) parsed.now) }
     {
         let mut made = Reports {
             table: reports,
