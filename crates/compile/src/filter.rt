@@ -12,14 +12,14 @@ use glob::place::Place;
 use std::alloc::{AllocError, Global};
 
 // A name that a filter keeps: how it is matched, and its place in the filter's names.
-#[derive(Clone, Copy)]
+#[derive(Clone, Copy, PartialEq, Eq, Debug)]
 pub struct OwnName {
     pub kind: MatchKind,
     pub place: Place,
 }
 
 // A set: packages or groups by number, or what a field of a query has to be.
-#[derive(Clone, Copy)]
+#[derive(Clone, Copy, PartialEq, Eq, Debug)]
 pub enum FilterLeaf {
     Packages(NumberSet),
     Groups(NumberSet),

@@ -20,7 +20,7 @@ use glob::place::Place;
 use parsing::nodes::{ParsedLeaf, ParsedNode, Predicate};
 
 // What a filter is for.
-#[derive(Clone, Copy)]
+#[derive(Clone, Copy, PartialEq, Eq, Debug)]
 pub enum FiltersetKind {
     Test,
     TestArchive,
@@ -90,6 +90,7 @@ fn group_start(node: ParsedNode) -> Option<usize>
 pub(crate) fn leftmost_group(nodes: &[ParsedNode]) -> Option<usize>
     ensures { result ≡ leftmost group_at nodes.now }
 {
+    // A loop, since no fact of `find_map` gives the definition in one step.
     for node in nodes {
         if let Some(start) = group_start(*node) {
             return Some(start);

@@ -17,14 +17,14 @@ const BINARIES: usize = 256;
 const GROUPS: usize = 63;
 
 // A binary: its id and its name.
-#[derive(Clone, Copy)]
+#[derive(Clone, Copy, PartialEq, Eq, Debug)]
 pub struct BinaryRow {
     pub id: Place,
     pub name: Place,
 }
 
 // The rows that a filter is lowered to; `None` if groups are unavailable.
-#[derive(Clone, Copy)]
+#[derive(Clone, Copy, PartialEq, Eq, Debug)]
 pub struct Tables<'a> {
     pub names: &'a [u8],
     pub packages: &'a [Place],
