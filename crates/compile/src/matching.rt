@@ -72,11 +72,9 @@ impl<M: Matcher, O: DependencyOracle> Ground<'_, M, O> {
     // Adds the numbers of the rows whose name is taken, where the first row has that number.
     fn insert_taken(&self, wanted: Wanted<'_>, rows: &[Place], first: usize, set: &mut NumberSet)
         requires { first < 2 ^ 62 }
-        ensures {
-            (front : List (List ℕ)) → length front ≡ first →
+        ensures { (front : List (List ℕ)) → length front ≡ first →
             set.old.words ≡ set_of width (passes (fits (world M.matches O.depends self.now) wanted.entry.kind wanted.entry.value.now) (front ++ map (name_at self.now.tables.names.now) rows.now)) first →
-            set.new.words ≡ numbers_of (fits (world M.matches O.depends self.now) wanted.entry.kind wanted.entry.value.now) (front ++ map (name_at self.now.tables.names.now) rows.now)
-        }
+            set.new.words ≡ numbers_of (fits (world M.matches O.depends self.now) wanted.entry.kind wanted.entry.value.now) (front ++ map (name_at self.now.tables.names.now) rows.now) }
     {
         for (i, row) in rows.iter().enumerate() {
             if self.takes(wanted, self.tables.name(*row)) {

@@ -1,7 +1,5 @@
-use Rattle.std.proofs.Common.{◌≡◌, ◌^◌, ◌<◌, ◌+◌, ℕ, List, length, None, Some, Option, sym, ap, ◌∙◌, arith, rules}
-use lib.Seq.{sets}
+use Rattle.std.proofs.Common.{◌≡◌, ◌^◌, ◌<◌, length, Option, sym, ap, ◌∙◌, arith, rules}
 use Rattle.std.specs.List.{flat_map}
-use Rattle.errors.specs.declared.reports.Report.{Report}
 use Rattle.errors.specs.Reports.{Log}
 use Rattle.errors.specs.declared.faults.LoweringFault.{LoweringFault}
 use Rattle.errors.specs.declared.faults.LoweringFault.TheVariants.{Banned}
