@@ -5,7 +5,7 @@ use Rattle.std.proofs.lemmas.List.{at_drop_more, at_drop_all}
 use Rattle.parsing.specs.Tree.{Leaf, Word}
 use Rattle.compile.specs.declared.kinds.FiltersetKind.{FiltersetKind}
 use Rattle.compile.specs.Bans.{ban_leaf, ban_word, leftmost}
-use Rattle.compile.proofs.Tallies.{note-few}
+use Rattle.compile.proofs.Logs.{note-few}
 
 few-leaf : {N : Type 0} (k : FiltersetKind) (l : Leaf N) → length (ban_leaf k l) ≤ 1
 few-leaf k (Leaf.matched p m n at) = note-few _ _ _

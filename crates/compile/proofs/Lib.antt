@@ -1,5 +1,5 @@
 mod Rows
-mod Tallies
+mod Logs
 mod BanLists
 mod LoweredRows
 mod LoweredTrees

@@ -1,6 +1,5 @@
 -- Nodes lowered one after the other.
 use Rattle.std.proofs.Common.{◌≡◌, ℕ, ◌+◌, ◌<◌, ◌≤◌, List, [], ◌∷◌, ◌++◌, map, length, get_or, drop, sym, refl, ap, ◌∙◌, append_assoc, append-nil, add-zero, arith, length-append}
-use lib.Seq.{sets}
 use Rattle.std.proofs.lemmas.List.{at_drop_more}
 use Rattle.errors.specs.declared.reports.Report.{Report}
 use Rattle.glob.specs.declared.place.Place.{Place}
@@ -10,11 +9,11 @@ use Rattle.parsing.specs.declared.nodes.Predicate.{Predicate}
 use Rattle.parsing.specs.declared.nodes.Predicate.TheVariants.{Package, Deps, Rdeps, Kind, BinaryId, Binary, Test, Group}
 use Rattle.parsing.specs.Tree.{Leaf, Word}
 use Rattle.compile.specs.declared.filter.FilterLeaf.{FilterLeaf}
-use Rattle.compile.specs.declared.reports.Tally.{Tally}
-use Rattle.compile.specs.Reports.{tallied}
+use Rattle.errors.specs.Reports.{Log}
+use Rattle.compile.specs.Reports.{logged}
 use Rattle.compile.specs.World.{World}
 use Rattle.compile.specs.Lowered.{emits, copies, notes, size, emitted, copied, noted, sizes, State, Lowers, matched_note, note_for}
-use Rattle.compile.proofs.Tallies.{sets-append, tallied-append, note-few}
+use Rattle.compile.proofs.Logs.{logged-append, note-few}
 
 pub copied-append : (xs ys : List (Word (List ℕ))) → copied (xs ++ ys) ≡ copied xs ++ copied ys
 copied-append [] ys = refl
@@ -40,17 +39,15 @@ lowers_then w xs ys s m e a b =
     record {
       nodes = b.nodes ∙ ap (λ (z : List (Node FilterLeaf)). z ++ emitted w (length m.names) ys) a.nodes ∙ ap (λ (n : ℕ). (s.nodes ++ emitted w u xs) ++ emitted w n ys) long ∙ append_assoc s.nodes (emitted w u xs) (emitted w (u + length (copied xs)) ys) ∙ ap (λ (z : List (Node FilterLeaf)). s.nodes ++ z) (sym (emitted-append w u xs ys));
       names = b.names ∙ ap (λ (z : List ℕ). z ++ copied ys) a.names ∙ append_assoc s.names (copied xs) (copied ys) ∙ ap (λ (z : List ℕ). s.names ++ z) (sym (copied-append xs ys));
-      table = b.table ∙ ap (λ (z : List Report). sets z m.tally.count (noted w ys)) a.table ∙ ap (λ (t : Tally). sets (sets s.table s.tally.count (noted w xs)) t.count (noted w ys)) a.tally ∙ sets-append s.table s.tally.count (noted w xs) (noted w ys) ∙ ap (sets s.table s.tally.count) (sym (noted-append w xs ys));
-      tally = b.tally ∙ ap (λ (t : Tally). tallied t (noted w ys)) a.tally ∙ tallied-append s.tally (noted w xs) (noted w ys) ∙ ap (tallied s.tally) (sym (noted-append w xs ys));
+      log = b.log ∙ ap (λ (z : Log). logged z (noted w ys)) a.log ∙ sym (logged-append s.log (noted w xs) (noted w ys)) ∙ ap (logged s.log) (sym (noted-append w xs ys));
     }
 
 -- one node
-pub lowers-one : (w : World) (x : Word (List ℕ)) (s e : State) → e.nodes ≡ s.nodes ++ emits w (length s.names) x → e.names ≡ s.names ++ copies x → e.table ≡ sets s.table s.tally.count (notes w x) → e.tally ≡ tallied s.tally (notes w x) → Lowers w (x ∷ []) s e
-lowers-one w x s e a b c d = record {
+pub lowers-one : (w : World) (x : Word (List ℕ)) (s e : State) → e.nodes ≡ s.nodes ++ emits w (length s.names) x → e.names ≡ s.names ++ copies x → e.log ≡ logged s.log (notes w x) → Lowers w (x ∷ []) s e
+lowers-one w x s e a b c = record {
   nodes = a ∙ ap (λ (z : List (Node FilterLeaf)). s.nodes ++ z) (sym (append-nil (emits w (length s.names) x)));
   names = b ∙ ap (λ (z : List ℕ). s.names ++ z) (sym (append-nil (copies x)));
-  table = c ∙ ap (λ (z : List Report). sets s.table s.tally.count z) (sym (append-nil (notes w x)));
-  tally = d ∙ ap (λ (z : List Report). tallied s.tally z) (sym (append-nil (notes w x)));
+  log = c ∙ ap (logged s.log) (sym (append-nil (notes w x)));
 }
 
 -- the room that what is left asks for
@@ -83,3 +80,7 @@ few-notes w (Word.leaf l) = leaf-few w l
 few-notes w Word.negation = omega arith
 few-notes w Word.brackets = omega arith
 few-notes w (Word.operator o) = omega arith
+
+pub few-noted : (w : World) (xs : List (Word (List ℕ))) → length (noted w xs) ≤ length xs
+few-noted w [] = omega arith
+few-noted w (x ∷ xs) = omega (arith, few-notes w x, few-noted w xs, length-append (notes w x) (noted w xs))

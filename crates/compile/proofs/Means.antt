@@ -120,6 +120,6 @@ screens-leaf w b d h Leaf.none before after = refl
 
 pub faithful : Faithful
 faithful = record {
-  judges = λ w t f q g d h z s. whole-value truth w (judged_leaf w.matches q g d) (judged w q g d) (judges-leaf w q g d h) t z (vec_items f.names.bytes) s.names;
-  screens = λ w t f b d h z s. whole-value kleene w (screened_leaf w.matches b d) (screened w b d) (screens-leaf w b d h) t z (vec_items f.names.bytes) s.names;
+  judges = λ w t f q g d h z s. whole-value truth w (judged_leaf w.matches q g d) (judged w q g d) (judges-leaf w q g d h) t z (vec_items f.names.items) s.names;
+  screens = λ w t f b d h z s. whole-value kleene w (screened_leaf w.matches b d) (screened w b d) (screens-leaf w b d h) t z (vec_items f.names.items) s.names;
 }

@@ -53,5 +53,5 @@ lowered_from w u (Tree.joined o x y) = joined_by o (lowered_from w u x) (lowered
 -- the filter stores the reading: its nodes write the lowered tree down, and it keeps the names and the place of the leftmost group
 pub record Stores (w : World) (t : Tree (List ℕ)) (f : Filter) : Type 0 where
   pub nodes : vec_items f.nodes.items ≡ postfix (lowered_from w 0 t)
-  pub names : vec_items f.names.bytes ≡ kept t
+  pub names : vec_items f.names.items ≡ kept t
   pub group : f.group ≡ leftmost_group t

@@ -1,6 +1,7 @@
 -- What each node of a reading is lowered to: nodes of the filter, names that it keeps, and reports.
 use Rattle.std.specs.Prelude.{◌≡◌, ℕ, ◌+◌, Bool, not, List, [], ◌∷◌, ◌++◌, length}
-use Rattle.std.proofs.lemmas.List.Edits.{sets}
+use Rattle.std.specs.List.{list_any}
+use Rattle.errors.specs.Reports.{Log}
 use Rattle.errors.specs.declared.reports.Report.{Report}
 use Rattle.errors.specs.declared.reports.ReportKind.TheVariants.{NoPackageMatch, NoGroupMatch, NoBinaryIdMatch, NoBinaryNameMatch}
 use Rattle.glob.specs.declared.place.Place.{Place}
@@ -20,9 +21,8 @@ use Rattle.compile.specs.declared.matching.BinaryField.{BinaryField}
 use Rattle.compile.specs.declared.matching.BinaryField.TheVariants.{Id, Name}
 use Rattle.compile.specs.declared.matching.Direction.{Direction}
 use Rattle.compile.specs.declared.matching.Direction.TheVariants.{Dependencies, Dependents}
-use Rattle.compile.specs.declared.reports.Tally.{Tally}
-use Rattle.compile.specs.Numbers.{numbers_of, groups_of, reached, some, field_of}
-use Rattle.compile.specs.Reports.{note_if, tallied}
+use Rattle.compile.specs.Numbers.{numbers_of, groups_of, reached, field_of}
+use Rattle.compile.specs.Reports.{note_if, logged}
 use Rattle.compile.specs.World.{World, fits}
 
 -- the packages whose name is taken
@@ -39,7 +39,7 @@ groups_by w k v = groups_of (fits w k v) w.tables.groups
 
 -- some binary's id or name is taken
 abbrev pub has_binary : World → BinaryField → MatchKind → List ℕ → Bool
-has_binary w field k v = some (λ b. fits w k v (field_of field b)) w.tables.binaries
+has_binary w field k v = list_any (λ b. fits w k v (field_of field b)) w.tables.binaries
 
 -- a name that the filter keeps, after u bytes of others
 abbrev pub own : ℕ → MatchKind → List ℕ → OwnName
@@ -163,15 +163,13 @@ sizes (x ∷ xs) = size x + sizes xs
 pub record State : Type 0 where
   pub nodes : List (Node FilterLeaf)
   pub names : List ℕ
-  pub table : List Report
-  pub tally : Tally
+  pub log : Log
 
-abbrev pub state : List (Node FilterLeaf) → List ℕ → List Report → Tally → State
-state ns bs t c = record { nodes = ns; names = bs; table = t; tally = c }
+abbrev pub state : List (Node FilterLeaf) → List ℕ → Log → State
+state ns bs l = record { nodes = ns; names = bs; log = l }
 
 -- lowering the row takes s to e
 pub record Lowers (w : World) (xs : List (Word (List ℕ))) (s e : State) : Type 0 where
   pub nodes : e.nodes ≡ s.nodes ++ emitted w (length s.names) xs
   pub names : e.names ≡ s.names ++ copied xs
-  pub table : e.table ≡ sets s.table s.tally.count (noted w xs)
-  pub tally : e.tally ≡ tallied s.tally (noted w xs)
+  pub log : e.log ≡ logged s.log (noted w xs)

@@ -150,5 +150,5 @@ pub record Within (names : TableNames) : Type 0 where
 
 -- a filter that stores a reading has its value, for a test and for a binary
 pub record Faithful : Type 0 where
-  pub judges : (w : World) (t : Tree (List ℕ)) (f : Filter) (q : TestAsked) (g : Option ℕ) (d : Bool) → Within w.tables → Whole t → Stores w t f → value truth (judged_leaf w.matches q g d (vec_items f.names.bytes)) (lowered_from w 0 t) ≡ meaning truth (judged w q g d) t
-  pub screens : (w : World) (t : Tree (List ℕ)) (f : Filter) (b : BinaryAsked) (d : Option Bool) → Within w.tables → Whole t → Stores w t f → value kleene (screened_leaf w.matches b d (vec_items f.names.bytes)) (lowered_from w 0 t) ≡ meaning kleene (screened w b d) t
+  pub judges : (w : World) (t : Tree (List ℕ)) (f : Filter) (q : TestAsked) (g : Option ℕ) (d : Bool) → Within w.tables → Whole t → Stores w t f → value truth (judged_leaf w.matches q g d (vec_items f.names.items)) (lowered_from w 0 t) ≡ meaning truth (judged w q g d) t
+  pub screens : (w : World) (t : Tree (List ℕ)) (f : Filter) (b : BinaryAsked) (d : Option Bool) → Within w.tables → Whole t → Stores w t f → value kleene (screened_leaf w.matches b d (vec_items f.names.items)) (lowered_from w 0 t) ≡ meaning kleene (screened w b d) t

@@ -1,5 +1,5 @@
 -- Which packages and groups, by number: those whose name passes, and those that some of them depend on or are depended on by.
-use Rattle.std.specs.Prelude.{ℕ, Bool, false, ◌&&◌, ◌||◌, List, [], ◌∷◌, length, Some, None, codes, Option, slice_index_or}
+use Rattle.std.specs.Prelude.{ℕ, Bool, ◌&&◌, List, [], ◌∷◌, length, Some, None, codes, Option, slice_index_or}
 use Rattle.expression.specs.NumberSets.{width, member, some_below, set_of}
 use Rattle.compile.specs.declared.matching.Direction.{Direction}
 use Rattle.compile.specs.declared.matching.Direction.TheVariants.{Dependencies, Dependents}
@@ -40,11 +40,6 @@ is_led way d set n b = some_below (leads_from way d set b) n
 -- the numbers below n that some number of the set leads to
 abbrev pub reached : Direction → (ℕ → ℕ → Bool) → List ℕ → ℕ → List ℕ
 reached way d set n = set_of width (is_led way d set n) n
-
--- some of them passes
-abbrev pub some : {X : Type 0} → (X → Bool) → List X → Bool
-some f [] = false
-some f (x ∷ xs) = f x || some f xs
 
 -- a binary's id, or its name
 abbrev pub field_of : BinaryField → BinaryNames → List ℕ

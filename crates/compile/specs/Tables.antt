@@ -1,5 +1,6 @@
 -- The caller's tables: which are good, and the names in them.
-use Rattle.std.specs.Prelude.{ℕ, Bool, true, ◌&&◌, List, [], ◌∷◌, map, length, is_some, Some, None, Option, nat_le}
+use Rattle.std.specs.Prelude.{ℕ, Bool, true, ◌&&◌, List, [], map, length, is_some, Some, None, Option, nat_le}
+use Rattle.std.specs.List.{list_all}
 use Rattle.std.specs.Option.{option_map}
 use Rattle.glob.specs.declared.place.Place.{Place}
 use Rattle.glob.specs.Parts.{part_of}
@@ -41,21 +42,16 @@ lies_in text at = is_some (part_of text at)
 abbrev pub binary_lies_in : List ℕ → BinaryRow → Bool
 binary_lies_in text row = lies_in text row.id && lies_in text row.name
 
--- each of them passes
-abbrev pub each : {X : Type 0} → (X → Bool) → List X → Bool
-each f [] = true
-each f (x ∷ xs) = f x && each f xs
-
 -- groups are unavailable, or at most 63 and each lies in the text
 abbrev pub groups_good : List ℕ → Option (List Place) → Bool
 groups_good text None = true
-groups_good text (Some rows) = nat_le (length rows) 63 && each (lies_in text) rows
+groups_good text (Some rows) = nat_le (length rows) 63 && list_all (lies_in text) rows
 
 -- at most 64 packages, 256 binaries and 63 groups, and each name lies in the names text
 abbrev pub good : TableRows → Bool
 good t =
     nat_le (length t.packages) 64 && (nat_le (length t.binaries) 256
-    && (each (lies_in t.names) t.packages && (each (binary_lies_in t.names) t.binaries
+    && (list_all (lies_in t.names) t.packages && (list_all (binary_lies_in t.names) t.binaries
     && groups_good t.names t.groups)))
 
 -- what is there, or no byte

@@ -38,7 +38,7 @@ renamed_word f (Word.operator o) = Word.operator o
 
 -- the bytes of a name, in what is lent
 abbrev pub named : {M O : Type 0} → Ground M O → Name → List ℕ
-named g name = named_in g.text.now g.space.now name
+named g name = named_in g.texts.text.now g.texts.space.now name
 
 -- a set, with the bytes of its name
 abbrev pub leaf_of : {M O : Type 0} → Ground M O → ParsedLeaf → Leaf (List ℕ)

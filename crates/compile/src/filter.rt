@@ -12,14 +12,14 @@ use glob::place::Place;
 use std::alloc::{AllocError, Global};
 
 // A name that a filter keeps: how it is matched, and its place in the filter's names.
-#[derive(Clone, Copy)]
+#[derive(Clone, Copy, PartialEq, Eq, Debug)]
 pub struct OwnName {
     pub kind: MatchKind,
     pub place: Place,
 }
 
 // A set: packages or groups by number, or what a field of a query has to be.
-#[derive(Clone, Copy)]
+#[derive(Clone, Copy, PartialEq, Eq, Debug)]
 pub enum FilterLeaf {
     Packages(NumberSet),
     Groups(NumberSet),
@@ -33,19 +33,27 @@ pub enum FilterLeaf {
     None,
 }
 
-// Nodes in postfix order, with room for those of every filter: three for two of its at most 128 parts.
+// Items in a row, with room for N at least.
 #[derive(Drop)]
-pub struct FilterNodes {
-    pub(crate) items: Vec<Node<FilterLeaf>>,
-    ghost room: { 191 ≤ vec_capacity items },
+pub struct Roomy<T: Drop, const N: usize> {
+    pub(crate) items: Vec<T>,
+    ghost room: { N ≤ vec_capacity items },
 }
 
-// Names end to end, with room for those of every filter: no more bytes than its text.
-#[derive(Drop)]
-pub struct FilterNames {
-    pub(crate) bytes: Vec<u8>,
-    ghost room: { 1024 ≤ vec_capacity bytes },
+impl<T: Drop, const N: usize> Roomy<T, N> {
+    fn new(heap: Global) -> Result<Self, AllocError>
+        ensures { IfOk result (λ r. r.items.items ≡ []) }
+    {
+        let items = Vec::with_capacity(heap, N)?;
+        Ok(Roomy { items })
+    }
 }
+
+// Nodes in postfix order, with room for those of every filter: three for two of its at most 128 parts.
+pub type FilterNodes = Roomy<Node<FilterLeaf>, 191>;
+
+// Names end to end, with room for those of every filter: no more bytes than its text.
+pub type FilterNames = Roomy<u8, 1024>;
 
 // A filter: its nodes, its names, and where the name of its leftmost `group` starts in its text.
 #[derive(Drop)]
@@ -58,13 +66,11 @@ pub struct Filter {
 impl Filter {
     // A filter without a node, with room for every other.
     pub fn new(heap: Global) -> Result<Self, AllocError>
-        ensures { IfOk result (λ f. (f.nodes.items.items ≡ []) × (f.names.bytes.items ≡ []) × (f.group ≡ None)) }
+        ensures { IfOk result (λ f. (f.nodes.items.items ≡ []) × (f.names.items.items ≡ []) × (f.group ≡ None)) }
     {
-        let items = Vec::with_capacity(heap, 191)?;
-        let bytes = Vec::with_capacity(heap, 1024)?;
         Ok(Filter {
-            nodes: FilterNodes { items },
-            names: FilterNames { bytes },
+            nodes: Roomy::new(heap)?,
+            names: Roomy::new(heap)?,
             group: None,
         })
     }
@@ -78,9 +84,9 @@ impl Filter {
 
     // The names that its leaves have places in.
     pub fn names(&self) -> &[u8]
-        ensures { result.now ≡ self.now.names.bytes.items }
+        ensures { result.now ≡ self.now.names.items.items }
     {
-        self.names.bytes.as_slice()
+        self.names.items.as_slice()
     }
 
     // Where the name of its leftmost `group` starts in its text.

@@ -6,12 +6,11 @@ ghost use Rattle.std.specs.Prelude.{◌≡◌};
 ghost use Rattle.compile.specs.Words.{named_in};
 
 use crate::tables::Tables;
-use unicode_string::{Name, name_part};
+use unicode_string::{Name, Texts};
 
 #[derive(Drop)]
 pub(crate) struct Ground<'a, M, O> {
-    pub(crate) text: &'a [u8],
-    pub(crate) space: &'a [u8; 1024],
+    pub(crate) texts: Texts<'a>,
     pub(crate) tables: Tables<'a>,
     pub(crate) matcher: &'a M,
     pub(crate) oracle: &'a O,
@@ -20,11 +19,11 @@ pub(crate) struct Ground<'a, M, O> {
 impl<M, O> Ground<'_, M, O> {
     // A name's bytes.
     pub(crate) fn name_of(&self, name: Name) -> &[u8]
-        ensures { result.now ≡ named_in self.now.text.now self.now.space.now name }
+        ensures { result.now ≡ named_in self.now.texts.text.now self.now.texts.space.now name }
     {
-        match name_part(self.text, self.space, name) {
+        match self.texts.part(name) {
             Some(part) => part.bytes,
-            None => &self.text[0..0],
+            None => &[],
         }
     }
 }

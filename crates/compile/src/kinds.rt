@@ -5,21 +5,22 @@
 ghost use Rattle.std.specs.Prelude.{◌≡◌, ◌^◌, ◌<◌, length};
 ghost use Rattle.std.proofs.lemmas.List.Edits.{sets};
 ghost use Rattle.std.specs.List.{flat_map};
-ghost use Rattle.compile.specs.Reports.{tallied, no_reports};
-ghost use Rattle.compile.specs.Bans.{bans_set, bans_default, ban_leaf, ban_node, group_at, leftmost};
-ghost use Rattle.compile.specs.Words.{leaf_as};
+ghost use Rattle.errors.specs.Reports.{log};
+ghost use Rattle.errors.specs.declared.reports.ReportKind.TheVariants.{BannedPredicate};
+ghost use Rattle.compile.specs.Reports.{note_at, logged};
+ghost use Rattle.compile.specs.Bans.{bans_set, bans_default, ban_node, group_at, leftmost};
 ghost use Rattle.compile.specs.Compiled.{fault_by, no_groups, answer};
 ghost use Rattle.compile.specs.Tables.{names_in, rows_of};
 ghost use Rattle.errors.specs.declared.faults.LoweringFault.TheVariants.{Banned};
 
-use crate::reports::{Tally, note_if};
 use crate::tables::Tables;
 use errors::faults::LoweringFault;
-use errors::reports::{Report, ReportKind};
+use errors::reports::{Report, ReportKind, Reports};
+use glob::place::Place;
 use parsing::nodes::{ParsedLeaf, ParsedNode, Predicate};
 
 // What a filter is for.
-#[derive(Clone, Copy)]
+#[derive(Clone, Copy, PartialEq, Eq, Debug)]
 pub enum FiltersetKind {
     Test,
     TestArchive,
@@ -34,14 +35,12 @@ impl FiltersetKind {
     {
         match self {
             FiltersetKind::Test => false,
-            FiltersetKind::TestArchive => match predicate {
-                Predicate::Test | Predicate::Group => true,
-                _ => false,
-            },
-            FiltersetKind::OverrideFilter | FiltersetKind::DefaultFilter => match predicate {
-                Predicate::Group => true,
-                _ => false,
-            },
+            FiltersetKind::TestArchive => {
+                matches!(predicate, Predicate::Test | Predicate::Group)
+            }
+            FiltersetKind::OverrideFilter | FiltersetKind::DefaultFilter => {
+                matches!(predicate, Predicate::Group)
+            }
         }
     }
 
@@ -49,58 +48,32 @@ impl FiltersetKind {
     fn bans_default(self) -> bool
         ensures { result ≡ bans_default self }
     {
-        match self {
-            FiltersetKind::DefaultFilter => true,
-            _ => false,
-        }
+        matches!(self, FiltersetKind::DefaultFilter)
     }
-}
 
-fn ban_leaf(kind: FiltersetKind, leaf: ParsedLeaf, reports: &mut [Report], tally: Tally) -> Tally
-    requires { tally.count < 2 ^ 63 }
-    ensures table { reports.new ≡ sets reports.old tally.count (ban_leaf kind (leaf_as leaf)) }
-    ensures tally { result ≡ tallied tally (ban_leaf kind (leaf_as leaf)) }
-{
-    let banned = ReportKind::BannedPredicate;
-    match leaf {
-        ParsedLeaf::Matched(predicate, _, span) => {
-            note_if(reports, tally, kind.bans(predicate), banned, span)
+    // What a banned set is reported at, if the node is one.
+    fn banned_place(self, node: ParsedNode) -> Option<Place>
+        ensures { note_at BannedPredicate result ≡ ban_node self node }
+    {
+        match node {
+            ParsedNode::Set(ParsedLeaf::Matched(predicate, _, span)) if self.bans(predicate) => {
+                Some(span)
+            }
+            ParsedNode::Set(ParsedLeaf::Default(span)) if self.bans_default() => Some(span),
+            _ => None,
         }
-        ParsedLeaf::Default(span) => note_if(reports, tally, kind.bans_default(), banned, span),
-        ParsedLeaf::Platform(_, _) => tally,
-        ParsedLeaf::All => tally,
-        ParsedLeaf::None => tally,
-    }
-}
-
-fn ban_node(kind: FiltersetKind, node: ParsedNode, reports: &mut [Report], tally: Tally) -> Tally
-    requires { tally.count < 2 ^ 63 }
-    ensures table { reports.new ≡ sets reports.old tally.count (ban_node kind node) }
-    ensures tally { result ≡ tallied tally (ban_node kind node) }
-{
-    match node {
-        ParsedNode::Set(leaf) => ban_leaf(kind, leaf, reports, tally),
-        ParsedNode::Not => tally,
-        ParsedNode::Parens => tally,
-        ParsedNode::Joined(_) => tally,
     }
 }
 
 // Reports each banned set, leftmost first.
-pub(crate) fn report_bans(
-    kind: FiltersetKind,
-    nodes: &[ParsedNode],
-    reports: &mut [Report],
-) -> Tally
-    requires { length nodes.now < 2 ^ 32 }
-    ensures table { reports.new ≡ sets reports.old 0 (flat_map (ban_node kind) nodes.now) }
-    ensures tally { result ≡ tallied no_reports (flat_map (ban_node kind) nodes.now) }
+fn report_bans(kind: FiltersetKind, nodes: &[ParsedNode], reports: &mut Reports<'_>)
+    ensures { log reports.new ≡ logged (log reports.old) (flat_map (ban_node kind) nodes.now) }
 {
-    let mut tally = Tally::new();
     for node in nodes {
-        tally = ban_node(kind, *node, reports, tally);
+        if let Some(span) = kind.banned_place(*node) {
+            reports.report(ReportKind::BannedPredicate, span.start, span.length);
+        }
     }
-    tally
 }
 
 // Where the name of a `group` starts, if the node is one.
@@ -117,6 +90,7 @@ fn group_start(node: ParsedNode) -> Option<usize>
 pub(crate) fn leftmost_group(nodes: &[ParsedNode]) -> Option<usize>
     ensures { result ≡ leftmost group_at nodes.now }
 {
+    // A loop, since no fact of `find_map` gives the definition in one step.
     for node in nodes {
         if let Some(start) = group_start(*node) {
             return Some(start);
@@ -135,9 +109,17 @@ pub(crate) fn check_bans(
     ensures table { reports.new ≡ sets reports.old 0 (flat_map (ban_node kind) nodes.now) }
     ensures answer { result ≡ answer (fault_by Banned (flat_map (ban_node kind) nodes.now)) }
 {
-    let Tally { count, first } = report_bans(kind, nodes, reports);
-    match first {
-        Some(place) => Err(LoweringFault::Banned { place, count }),
+    let mut made = Reports {
+        table: reports,
+        count: 0,
+        first: None,
+    };
+    report_bans(kind, nodes, &mut made);
+    match made.first {
+        Some(place) => Err(LoweringFault::Banned {
+            place,
+            count: made.count,
+        }),
         None => Ok(()),
     }
 }

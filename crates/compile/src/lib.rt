@@ -10,5 +10,4 @@ pub mod kinds;
 mod lowering;
 mod matching;
 pub mod meaning;
-mod reports;
 pub mod tables;

@@ -4,28 +4,23 @@
 // Lowering: what was read becomes a filter's nodes, with names of its own and sets of numbers.
 ghost use Rattle.std.specs.Prelude.{◌≡◌, ℕ, ◌+◌, ◌^◌, ◌<◌, ◌≤◌, not, List, ◌++◌, map, length, vec_len, vec_capacity};
 ghost use Rattle.std.proofs.lemmas.List.Edits.{sets};
-ghost use Rattle.errors.specs.declared.reports.ReportKind.TheVariants.{NoPackageMatch, NoGroupMatch};
+ghost use Rattle.errors.specs.Reports.{log};
 ghost use Rattle.expression.specs.NumberSets.{void};
-ghost use Rattle.compile.specs.declared.filter.FilterLeaf.TheVariants.{Packages, Groups};
-ghost use Rattle.compile.specs.Reports.{note_if, tallied, no_reports};
+ghost use Rattle.compile.specs.Reports.{note_if, logged};
 ghost use Rattle.compile.specs.Compiled.{fault_by, answer, Compiled};
 ghost use Rattle.compile.specs.Filters.{Whole};
 ghost use Rattle.compile.specs.World.{world};
 ghost use Rattle.parsing.specs.Tree.{Tree, postfix};
 ghost use Rattle.errors.specs.declared.faults.LoweringFault.TheVariants.{NothingFound};
 ghost use Rattle.compile.specs.Words.{named, leaf_of, word_of};
-ghost use Rattle.compile.specs.Lowered.{packages_of, near_of, groups_by, has_binary, own, matched_leaf, matched_name, matched_note, leaf_for, name_for, note_for, signs, sign_size, emits, copies, notes, size, sizes, emitted, copied, noted, state, Lowers};
+ghost use Rattle.compile.specs.Lowered.{has_binary, own, matched_leaf, matched_name, matched_note, leaf_for, name_for, note_for, signs, sign_size, emits, copies, notes, size, sizes, emitted, copied, noted, state, Lowers};
 
 use crate::filter::{Filter, FilterLeaf, FilterNames, FilterNodes, OwnName};
 use crate::ground::Ground;
 use crate::kinds::{FiltersetKind, check_bans, check_groups, leftmost_group};
-use crate::matching::{
-    BinaryField, Direction, has_binary, matching_groups, matching_names, reached_from,
-};
-use crate::reports::{Tally, note_if};
+use crate::matching::{BinaryField, Direction, Wanted};
 use errors::faults::LoweringFault;
-use errors::reports::{Report, ReportKind};
-use expression::name_matcher::MatchKind;
+use errors::reports::{Report, ReportKind, Reports};
 use expression::nodes::Node;
 use expression::number_set::NumberSet;
 use expression::oracle::DependencyOracle;
@@ -34,12 +29,13 @@ use glob::place::Place;
 use parsing::nodes::{NameMatcher, Operator, ParsedLeaf, ParsedNode, Predicate};
 
 // Copies a name behind those that are kept.
-fn keep(kind: MatchKind, value: &[u8], names: &mut Vec<u8>) -> OwnName
-    requires { vec_len names.old + length value.now ≤ vec_capacity names.old }
-    ensures place { result ≡ own (length names.old.items) kind value.now }
-    ensures names { names.new.items ≡ names.old.items ++ value.now }
+fn keep(wanted: Wanted<'_>, names: &mut Vec<u8>) -> OwnName
+    requires { vec_len names.old + length wanted.value.now ≤ vec_capacity names.old }
+    ensures place { result ≡ own (length names.old.items) wanted.entry.kind wanted.entry.value.now }
+    ensures names { names.new.items ≡ names.old.items ++ wanted.entry.value.now }
     ensures capacity { vec_capacity names.old ≤ vec_capacity names.new }
 {
+    let Wanted { kind, value } = wanted;
     let place = Place {
         start: names.len(),
         length: value.len(),
@@ -48,48 +44,15 @@ fn keep(kind: MatchKind, value: &[u8], names: &mut Vec<u8>) -> OwnName
     OwnName { kind, place }
 }
 
-// A leaf of packages, with a report if there is none.
-fn packages_leaf(
-    set: NumberSet,
-    span: Place,
-    reports: &mut [Report],
-    tally: Tally,
-) -> (FilterLeaf, Tally)
-    requires { tally.count < 2 ^ 63 }
-    ensures leaf { result.0 ≡ Packages set }
-    ensures table { reports.new ≡ sets reports.old tally.count (note_if (void set.words) NoPackageMatch span) }
-    ensures tally { result.1 ≡ tallied tally (note_if (void set.words) NoPackageMatch span) }
+// The set, with a report if nothing is in it.
+fn found(set: NumberSet, kind: ReportKind, span: Place, reports: &mut Reports<'_>) -> NumberSet
+    ensures set { result ≡ set }
+    ensures log { log reports.new ≡ logged (log reports.old) (note_if (void set.words) kind span) }
 {
-    let tally = note_if(
-        reports,
-        tally,
-        set.is_empty(),
-        ReportKind::NoPackageMatch,
-        span,
-    );
-    (FilterLeaf::Packages(set), tally)
-}
-
-// A leaf of groups, with a report if there is none.
-fn groups_leaf(
-    set: NumberSet,
-    span: Place,
-    reports: &mut [Report],
-    tally: Tally,
-) -> (FilterLeaf, Tally)
-    requires { tally.count < 2 ^ 63 }
-    ensures leaf { result.0 ≡ Groups set }
-    ensures table { reports.new ≡ sets reports.old tally.count (note_if (void set.words) NoGroupMatch span) }
-    ensures tally { result.1 ≡ tallied tally (note_if (void set.words) NoGroupMatch span) }
-{
-    let tally = note_if(
-        reports,
-        tally,
-        set.is_empty(),
-        ReportKind::NoGroupMatch,
-        span,
-    );
-    (FilterLeaf::Groups(set), tally)
+    if set.is_empty() {
+        reports.report(kind, span.start, span.length);
+    }
+    set
 }
 
 // A sign that joins two operands; minus becomes and-not.
@@ -110,93 +73,66 @@ fn lower_operator(operator: Operator, nodes: &mut Vec<Node<FilterLeaf>>)
 }
 
 impl<M: Matcher, O: DependencyOracle> Ground<'_, M, O> {
-    // The packages whose name is taken.
-    fn packages(&self, kind: MatchKind, value: &[u8]) -> NumberSet
-        ensures { result.words ≡ packages_of (world M.matches O.depends self.now) kind value.now }
+    // Makes a report where no binary's id or name is taken.
+    fn note_binary(
+        &self,
+        field: BinaryField,
+        wanted: Wanted<'_>,
+        kind: ReportKind,
+        span: Place,
+        reports: &mut Reports<'_>,
+    )
+        ensures { log reports.new ≡ logged (log reports.old) (note_if (not (has_binary (world M.matches O.depends self.now) field wanted.entry.kind wanted.entry.value.now)) kind span) }
     {
-        matching_names(
-            self.matcher,
-            kind,
-            value,
-            self.tables.names,
-            self.tables.packages,
-        )
-    }
-
-    // The packages that these depend on, or that depend on them.
-    fn near(&self, way: Direction, kind: MatchKind, value: &[u8]) -> NumberSet
-        ensures { result.words ≡ near_of (world M.matches O.depends self.now) way kind value.now }
-    {
-        let set = self.packages(kind, value);
-        reached_from(self.oracle, way, set, self.tables.packages.len())
-    }
-
-    // The groups whose name is taken.
-    fn groups(&self, kind: MatchKind, value: &[u8]) -> NumberSet
-        ensures { result.words ≡ groups_by (world M.matches O.depends self.now) kind value.now }
-    {
-        match self.tables.groups {
-            Some(rows) => matching_groups(self.matcher, kind, value, self.tables.names, rows),
-            None => NumberSet::new(),
+        if !self.has_binary(field, wanted) {
+            reports.report(kind, span.start, span.length);
         }
-    }
-
-    // Whether no binary's id or name is taken.
-    fn lacks_binary(&self, field: BinaryField, kind: MatchKind, value: &[u8]) -> bool
-        ensures { result ≡ not (has_binary (world M.matches O.depends self.now) field kind value.now) }
-    {
-        !has_binary(
-            self.matcher,
-            kind,
-            value,
-            self.tables.names,
-            field,
-            self.tables.binaries,
-        )
     }
 
     // A set that takes a name, with a report if it finds nothing.
     fn lower_matched(
         &self,
         predicate: Predicate,
-        kind: MatchKind,
-        value: &[u8],
+        wanted: Wanted<'_>,
         span: Place,
         names: &mut Vec<u8>,
-        reports: &mut [Report],
-        tally: Tally,
-    ) -> (FilterLeaf, Tally)
-        requires room { vec_len names.old + length (matched_name predicate value.now) ≤ vec_capacity names.old }
-        requires few { tally.count < 2 ^ 63 }
-        ensures leaf { result.0 ≡ matched_leaf (world M.matches O.depends self.now) (length names.old.items) predicate kind value.now }
-        ensures names { names.new.items ≡ names.old.items ++ matched_name predicate value.now }
+        reports: &mut Reports<'_>,
+    ) -> FilterLeaf
+        requires { vec_len names.old + length (matched_name predicate wanted.value.now) ≤ vec_capacity names.old }
+        ensures leaf { result ≡ matched_leaf (world M.matches O.depends self.now) (length names.old.items) predicate wanted.entry.kind wanted.entry.value.now }
+        ensures names { names.new.items ≡ names.old.items ++ matched_name predicate wanted.entry.value.now }
         ensures capacity { vec_capacity names.old ≤ vec_capacity names.new }
-        ensures table { reports.new ≡ sets reports.old tally.count (matched_note (world M.matches O.depends self.now) predicate kind value.now span) }
-        ensures tally { result.1 ≡ tallied tally (matched_note (world M.matches O.depends self.now) predicate kind value.now span) }
+        ensures log { log reports.new ≡ logged (log reports.old) (matched_note (world M.matches O.depends self.now) predicate wanted.entry.kind wanted.entry.value.now span) }
     {
         match predicate {
-            Predicate::Package => packages_leaf(self.packages(kind, value), span, reports, tally),
+            Predicate::Package => {
+                let set = self.packages(wanted);
+                FilterLeaf::Packages(found(set, ReportKind::NoPackageMatch, span, reports))
+            }
             Predicate::Deps => {
-                let set = self.near(Direction::Dependencies, kind, value);
-                packages_leaf(set, span, reports, tally)
+                let set = self.near(Direction::Dependencies, wanted);
+                FilterLeaf::Packages(found(set, ReportKind::NoPackageMatch, span, reports))
             }
             Predicate::Rdeps => {
-                let set = self.near(Direction::Dependents, kind, value);
-                packages_leaf(set, span, reports, tally)
+                let set = self.near(Direction::Dependents, wanted);
+                FilterLeaf::Packages(found(set, ReportKind::NoPackageMatch, span, reports))
             }
-            Predicate::Kind => (FilterLeaf::Kind(keep(kind, value, names)), tally),
+            Predicate::Kind => FilterLeaf::Kind(keep(wanted, names)),
             Predicate::BinaryId => {
-                let wrong = self.lacks_binary(BinaryField::Id, kind, value);
-                let tally = note_if(reports, tally, wrong, ReportKind::NoBinaryIdMatch, span);
-                (FilterLeaf::BinaryId(keep(kind, value, names)), tally)
+                let kind = ReportKind::NoBinaryIdMatch;
+                self.note_binary(BinaryField::Id, wanted, kind, span, reports);
+                FilterLeaf::BinaryId(keep(wanted, names))
             }
             Predicate::Binary => {
-                let wrong = self.lacks_binary(BinaryField::Name, kind, value);
-                let tally = note_if(reports, tally, wrong, ReportKind::NoBinaryNameMatch, span);
-                (FilterLeaf::Binary(keep(kind, value, names)), tally)
+                let kind = ReportKind::NoBinaryNameMatch;
+                self.note_binary(BinaryField::Name, wanted, kind, span, reports);
+                FilterLeaf::Binary(keep(wanted, names))
             }
-            Predicate::Test => (FilterLeaf::Test(keep(kind, value, names)), tally),
-            Predicate::Group => groups_leaf(self.groups(kind, value), span, reports, tally),
+            Predicate::Test => FilterLeaf::Test(keep(wanted, names)),
+            Predicate::Group => {
+                let set = self.groups(wanted);
+                FilterLeaf::Groups(found(set, ReportKind::NoGroupMatch, span, reports))
+            }
         }
     }
 
@@ -204,27 +140,24 @@ impl<M: Matcher, O: DependencyOracle> Ground<'_, M, O> {
         &self,
         leaf: ParsedLeaf,
         names: &mut Vec<u8>,
-        reports: &mut [Report],
-        tally: Tally,
-    ) -> (FilterLeaf, Tally)
-        requires room { vec_len names.old + length (name_for (leaf_of self.now leaf)) ≤ vec_capacity names.old }
-        requires few { tally.count < 2 ^ 63 }
-        ensures leaf { result.0 ≡ leaf_for (world M.matches O.depends self.now) (length names.old.items) (leaf_of self.now leaf) }
+        reports: &mut Reports<'_>,
+    ) -> FilterLeaf
+        requires { vec_len names.old + length (name_for (leaf_of self.now leaf)) ≤ vec_capacity names.old }
+        ensures leaf { result ≡ leaf_for (world M.matches O.depends self.now) (length names.old.items) (leaf_of self.now leaf) }
         ensures names { names.new.items ≡ names.old.items ++ name_for (leaf_of self.now leaf) }
         ensures capacity { vec_capacity names.old ≤ vec_capacity names.new }
-        ensures table { reports.new ≡ sets reports.old tally.count (note_for (world M.matches O.depends self.now) (leaf_of self.now leaf)) }
-        ensures tally { result.1 ≡ tallied tally (note_for (world M.matches O.depends self.now) (leaf_of self.now leaf)) }
+        ensures log { log reports.new ≡ logged (log reports.old) (note_for (world M.matches O.depends self.now) (leaf_of self.now leaf)) }
     {
         match leaf {
             ParsedLeaf::Matched(predicate, matcher, span) => {
                 let NameMatcher { kind, name } = matcher;
                 let value = self.name_of(name);
-                self.lower_matched(predicate, kind, value, span, names, reports, tally)
+                self.lower_matched(predicate, Wanted { kind, value }, span, names, reports)
             }
-            ParsedLeaf::Platform(platform, _) => (FilterLeaf::Platform(platform), tally),
-            ParsedLeaf::Default(_) => (FilterLeaf::Default, tally),
-            ParsedLeaf::All => (FilterLeaf::All, tally),
-            ParsedLeaf::None => (FilterLeaf::None, tally),
+            ParsedLeaf::Platform(platform, _) => FilterLeaf::Platform(platform),
+            ParsedLeaf::Default(_) => FilterLeaf::Default,
+            ParsedLeaf::All => FilterLeaf::All,
+            ParsedLeaf::None => FilterLeaf::None,
         }
     }
 
@@ -234,31 +167,26 @@ impl<M: Matcher, O: DependencyOracle> Ground<'_, M, O> {
         node: ParsedNode,
         nodes: &mut Vec<Node<FilterLeaf>>,
         names: &mut Vec<u8>,
-        reports: &mut [Report],
-        tally: Tally,
-    ) -> Tally
+        reports: &mut Reports<'_>,
+    )
         requires nodes { vec_len nodes.old + size (word_of self.now node) ≤ vec_capacity nodes.old }
         requires names { vec_len names.old + length (copies (word_of self.now node)) ≤ vec_capacity names.old }
-        requires few { tally.count < 2 ^ 63 }
         ensures nodes { nodes.new.items ≡ nodes.old.items ++ emits (world M.matches O.depends self.now) (length names.old.items) (word_of self.now node) }
         ensures names { names.new.items ≡ names.old.items ++ copies (word_of self.now node) }
-        ensures table { reports.new ≡ sets reports.old tally.count (notes (world M.matches O.depends self.now) (word_of self.now node)) }
-        ensures tally { result ≡ tallied tally (notes (world M.matches O.depends self.now) (word_of self.now node)) }
+        ensures log { log reports.new ≡ logged (log reports.old) (notes (world M.matches O.depends self.now) (word_of self.now node)) }
         ensures node_len { vec_len nodes.new ≡ vec_len nodes.old + size (word_of self.now node) }
         ensures node_cap { vec_capacity nodes.new ≡ vec_capacity nodes.old }
         ensures name_cap { vec_capacity names.old ≤ vec_capacity names.new }
     {
         match node {
             ParsedNode::Set(leaf) => {
-                let (lowered, made) = self.lower_leaf(leaf, names, reports, tally);
+                let lowered = self.lower_leaf(leaf, names, reports);
                 nodes.push_reserved(Node::Leaf(lowered));
-                return made;
             }
             ParsedNode::Not => nodes.push_reserved(Node::Not),
             ParsedNode::Parens => {}
             ParsedNode::Joined(operator) => lower_operator(operator, nodes),
         }
-        tally
     }
 
     // Lowers nodes after what is there.
@@ -267,19 +195,16 @@ impl<M: Matcher, O: DependencyOracle> Ground<'_, M, O> {
         parsed: &[ParsedNode],
         nodes: &mut Vec<Node<FilterLeaf>>,
         names: &mut Vec<u8>,
-        reports: &mut [Report],
-    ) -> Tally
+        reports: &mut Reports<'_>,
+    )
         requires nodes { vec_len nodes.old + sizes (map (word_of self.now) parsed.now) ≤ vec_capacity nodes.old }
         requires names { vec_len names.old + length (copied (map (word_of self.now) parsed.now)) ≤ vec_capacity names.old }
-        requires few { length parsed.now < 2 ^ 32 }
-        ensures lowers { Lowers (world M.matches O.depends self.now) (map (word_of self.now) parsed.now) (state nodes.old.items names.old.items reports.old no_reports) (state nodes.new.items names.new.items reports.new result) }
+        ensures lowers { Lowers (world M.matches O.depends self.now) (map (word_of self.now) parsed.now) (state nodes.old.items names.old.items (log reports.old)) (state nodes.new.items names.new.items (log reports.new)) }
         ensures capacity { (vec_capacity nodes.old ≤ vec_capacity nodes.new) × (vec_capacity names.old ≤ vec_capacity names.new) }
     {
-        let mut tally = Tally::new();
         for node in parsed {
-            tally = self.lower_node(*node, nodes, names, reports, tally);
+            self.lower_node(*node, nodes, names, reports);
         }
-        tally
     }
 
     // Lowers nodes in place of what is there.
@@ -288,19 +213,17 @@ impl<M: Matcher, O: DependencyOracle> Ground<'_, M, O> {
         parsed: &[ParsedNode],
         nodes: &mut FilterNodes,
         names: &mut FilterNames,
-        reports: &mut [Report],
-    ) -> Tally
+        reports: &mut Reports<'_>,
+    )
         requires nodes { sizes (map (word_of self.now) parsed.now) ≤ 191 }
         requires names { length (copied (map (word_of self.now) parsed.now)) ≤ 1024 }
-        requires few { length parsed.now < 2 ^ 32 }
-        ensures table { reports.new ≡ sets reports.old 0 (noted (world M.matches O.depends self.now) (map (word_of self.now) parsed.now)) }
-        ensures tally { result ≡ tallied no_reports (noted (world M.matches O.depends self.now) (map (word_of self.now) parsed.now)) }
+        ensures log { log reports.new ≡ logged (log reports.old) (noted (world M.matches O.depends self.now) (map (word_of self.now) parsed.now)) }
         ensures nodes { nodes.new.items.items ≡ emitted (world M.matches O.depends self.now) 0 (map (word_of self.now) parsed.now) }
-        ensures names { names.new.bytes.items ≡ copied (map (word_of self.now) parsed.now) }
+        ensures names { names.new.items.items ≡ copied (map (word_of self.now) parsed.now) }
     {
         nodes.items.clear();
-        names.bytes.clear();
-        self.lower_nodes(parsed, &mut nodes.items, &mut names.bytes, reports)
+        names.items.clear();
+        self.lower_nodes(parsed, &mut nodes.items, &mut names.items, reports);
     }
 
     // Lowers nodes into a filter, and refuses them if some find nothing.
@@ -316,13 +239,18 @@ impl<M: Matcher, O: DependencyOracle> Ground<'_, M, O> {
         ensures table { reports.new ≡ sets reports.old 0 (noted (world M.matches O.depends self.now) (map (word_of self.now) parsed.now)) }
         ensures answer { result ≡ answer (fault_by NothingFound (noted (world M.matches O.depends self.now) (map (word_of self.now) parsed.now))) }
         ensures nodes { filter.new.nodes.items.items ≡ emitted (world M.matches O.depends self.now) 0 (map (word_of self.now) parsed.now) }
-        ensures names { filter.new.names.bytes.items ≡ copied (map (word_of self.now) parsed.now) }
+        ensures names { filter.new.names.items.items ≡ copied (map (word_of self.now) parsed.now) }
     {
-        let tally = self.lower_anew(parsed, &mut filter.nodes, &mut filter.names, reports);
-        match tally.first {
+        let mut made = Reports {
+            table: reports,
+            count: 0,
+            first: None,
+        };
+        self.lower_anew(parsed, &mut filter.nodes, &mut filter.names, &mut made);
+        match made.first {
             Some(place) => Err(LoweringFault::NothingFound {
                 place,
-                count: tally.count,
+                count: made.count,
             }),
             None => Ok(()),
         }

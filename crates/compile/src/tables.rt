@@ -3,7 +3,8 @@
 
 // The names of packages, binaries and groups, as places in one lent text.
 ghost use Rattle.std.specs.Prelude.{◌≡◌, length, is_ok};
-ghost use Rattle.compile.specs.Tables.{name_at, lies_in, binary_lies_in, each, good, rows_of};
+ghost use Rattle.std.specs.List.{list_all};
+ghost use Rattle.compile.specs.Tables.{name_at, lies_in, binary_lies_in, groups_good, good, rows_of};
 
 use errors::faults::TablesFault;
 use glob::place::Place;
@@ -16,14 +17,14 @@ const BINARIES: usize = 256;
 const GROUPS: usize = 63;
 
 // A binary: its id and its name.
-#[derive(Clone, Copy)]
+#[derive(Clone, Copy, PartialEq, Eq, Debug)]
 pub struct BinaryRow {
     pub id: Place,
     pub name: Place,
 }
 
 // The rows that a filter is lowered to; `None` if groups are unavailable.
-#[derive(Clone, Copy)]
+#[derive(Clone, Copy, PartialEq, Eq, Debug)]
 pub struct Tables<'a> {
     pub names: &'a [u8],
     pub packages: &'a [Place],
@@ -31,56 +32,58 @@ pub struct Tables<'a> {
     pub groups: Option<&'a [Place]>,
 }
 
-fn lies_in(names: &[u8], place: Place) -> bool
-    ensures { result ≡ lies_in names.now place }
-{
-    place.of(names).is_some()
-}
+impl<'a> Tables<'a> {
+    // The name at a place; no byte where the place does not lie in the text.
+    pub(crate) fn name(&self, place: Place) -> &'a [u8]
+        ensures { result.now ≡ name_at self.now.names.now place }
+    {
+        place.of(self.names).unwrap_or(&[])
+    }
 
-fn all_lie_in(names: &[u8], rows: &[Place]) -> bool
-    ensures { result ≡ each (lies_in names.now) rows.now }
-{
-    for row in rows {
-        if !lies_in(names, *row) {
-            return false;
+    // Whether the place lies in the names text.
+    fn has(&self, place: Place) -> bool
+        ensures { result ≡ lies_in self.now.names.now place }
+    {
+        place.of(self.names).is_some()
+    }
+
+    fn has_all(&self, rows: &[Place]) -> bool
+        ensures { result ≡ list_all (lies_in self.now.names.now) rows.now }
+    {
+        rows.iter().all(|row| self.has(*row))
+    }
+
+    fn has_binary(&self, row: BinaryRow) -> bool
+        ensures { result ≡ binary_lies_in self.now.names.now row }
+    {
+        self.has(row.id) && self.has(row.name)
+    }
+
+    fn has_binaries(&self) -> bool
+        ensures { result ≡ list_all (binary_lies_in self.now.names.now) self.now.binaries.now }
+    {
+        self.binaries.iter().all(|row| self.has_binary(*row))
+    }
+
+    // Whether groups are unavailable, or no more than there may be, and each name lies in the names text.
+    fn has_groups(&self) -> bool
+        ensures { result ≡ groups_good self.now.names.now (rows_of self.now).groups }
+    {
+        match self.groups {
+            Some(rows) => rows.len() <= GROUPS && self.has_all(rows),
+            None => true,
         }
     }
-    true
-}
 
-fn binary_lies_in(names: &[u8], row: BinaryRow) -> bool
-    ensures { result ≡ binary_lies_in names.now row }
-{
-    lies_in(names, row.id) && lies_in(names, row.name)
-}
-
-fn binaries_lie_in(names: &[u8], rows: &[BinaryRow]) -> bool
-    ensures { result ≡ each (binary_lies_in names.now) rows.now }
-{
-    for row in rows {
-        if !binary_lies_in(names, *row) {
-            return false;
-        }
-    }
-    true
-}
-
-// Whether the tables have no more rows than they may, and each name lies in the names text.
-fn are_good(tables: &Tables<'_>) -> bool
-    ensures { result ≡ good (rows_of tables.now) }
-{
-    if tables.packages.len() > PACKAGES || tables.binaries.len() > BINARIES {
-        return false;
-    }
-    if !all_lie_in(tables.names, tables.packages) {
-        return false;
-    }
-    if !binaries_lie_in(tables.names, tables.binaries) {
-        return false;
-    }
-    match tables.groups {
-        Some(rows) => rows.len() <= GROUPS && all_lie_in(tables.names, rows),
-        None => true,
+    // Whether there are no more rows than there may be, and each name lies in the names text.
+    fn are_good(&self) -> bool
+        ensures { result ≡ good (rows_of self.now) }
+    {
+        self.packages.len() <= PACKAGES
+            && self.binaries.len() <= BINARIES
+            && self.has_all(self.packages)
+            && self.has_binaries()
+            && self.has_groups()
     }
 }
 
@@ -88,19 +91,9 @@ fn are_good(tables: &Tables<'_>) -> bool
 pub fn check_tables(tables: &Tables<'_>) -> Result<(), TablesFault>
     ensures { is_ok result ≡ good (rows_of tables.now) }
 {
-    if are_good(tables) {
+    if tables.are_good() {
         Ok(())
     } else {
         Err(TablesFault)
-    }
-}
-
-// The name at a place; no byte where the place does not lie in the text.
-pub(crate) fn name_at(names: &[u8], place: Place) -> &[u8]
-    ensures { result.now ≡ name_at names.now place }
-{
-    match place.of(names) {
-        Some(name) => name,
-        None => &names[0..0],
     }
 }

@@ -11,5 +11,5 @@ returns g c =
     let w = world g.M.Matcher.matches g.O.DependencyOracle.depends c.args.self.now in
     let t = c.args.self.now.tables in
     c.reached_from.ensures
-    ∙ ap (λ (s : List ℕ). reached c.args.way w.depends s (length t.packages.now)) c.packages-set.ensures
-    ∙ ap (reached c.args.way w.depends (packages_of w c.args.kind c.args.value.now)) (sym (length-map t.packages.now (name_at t.names.now)))
+    ∙ ap (λ (s : List ℕ). reached c.args.way w.depends s (length t.packages.now)) c.packages.ensures
+    ∙ ap (reached c.args.way w.depends (packages_of w c.args.wanted.kind c.args.wanted.value.now)) (sym (length-map t.packages.now (name_at t.names.now)))

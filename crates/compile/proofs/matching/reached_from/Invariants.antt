@@ -1,7 +1,0 @@
-use Rattle.std.proofs.Common.{◌≡◌}
-use Rattle.expression.specs.NumberSets.{width, set_of}
-use Rattle.compile.specs.Numbers.{is_led}
-use Rattle.compile.proofs.matching.reached_from.Given as goal
-
-abbrev pub invariant-loop-to : goal.invariant-loop-to
-invariant-loop-to g l = l.found.words ≡ set_of width (is_led l.way (g.O.DependencyOracle.depends l.oracle) l.set.words l.count) l.to
