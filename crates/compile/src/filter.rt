@@ -2,13 +2,14 @@
 // SPDX-License-Identifier: MIT OR Apache-2.0
 
 // A lowered filter: its nodes in postfix order, and names of its own.
-ghost use Rattle.std.specs.Prelude.{◌≡◌, ◌≤◌, [], IfOk, None, vec_capacity};
+ghost use Rattle.std.specs.Prelude.{◌≡◌, [], IfOk, None};
 
 use expression::name_matcher::MatchKind;
 use expression::nodes::Node;
 use expression::number_set::NumberSet;
 use expression::queries::BuildPlatform;
 use glob::place::Place;
+use parsing::store::Roomy;
 use std::alloc::{AllocError, Global};
 
 // A name that a filter keeps: how it is matched, and its place in the filter's names.
@@ -31,22 +32,6 @@ pub enum FilterLeaf {
     Default,
     All,
     None,
-}
-
-// Items in a row, with room for N at least.
-#[derive(Drop)]
-pub struct Roomy<T: Drop, const N: usize> {
-    pub(crate) items: Vec<T>,
-    ghost room: { N ≤ vec_capacity items },
-}
-
-impl<T: Drop, const N: usize> Roomy<T, N> {
-    fn new(heap: Global) -> Result<Self, AllocError>
-        ensures { IfOk result (λ r. r.items.items ≡ []) }
-    {
-        let items = Vec::with_capacity(heap, N)?;
-        Ok(Roomy { items })
-    }
 }
 
 // Nodes in postfix order, with room for those of every filter: three for two of its at most 128 parts.
