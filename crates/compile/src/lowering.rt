@@ -15,7 +15,7 @@ ghost use Rattle.errors.specs.declared.faults.LoweringFault.TheVariants.{Nothing
 ghost use Rattle.compile.specs.Words.{named, leaf_of, word_of};
 ghost use Rattle.compile.specs.Lowered.{has_binary, own, matched_leaf, matched_name, matched_note, leaf_for, name_for, note_for, signs, sign_size, emits, copies, notes, size, sizes, emitted, copied, noted, state, Lowers};
 
-use crate::filter::{Filter, FilterLeaf, FilterNames, FilterNodes, OwnName};
+use crate::filter::{Filter, FilterLeaf, OwnName};
 use crate::ground::Ground;
 use crate::kinds::{FiltersetKind, check_bans, check_groups, leftmost_group};
 use crate::matching::{BinaryField, Direction, Wanted};
@@ -207,26 +207,7 @@ impl<M: Matcher, O: DependencyOracle> Ground<'_, M, O> {
         }
     }
 
-    // Lowers nodes in place of what is there.
-    fn lower_anew(
-        &self,
-        parsed: &[ParsedNode],
-        nodes: &mut FilterNodes,
-        names: &mut FilterNames,
-        reports: &mut Reports<'_>,
-    )
-        requires nodes { sizes (map (word_of self.now) parsed.now) ≤ 191 }
-        requires names { length (copied (map (word_of self.now) parsed.now)) ≤ 1024 }
-        ensures log { log reports.new ≡ logged (log reports.old) (noted (world M.matches O.depends self.now) (map (word_of self.now) parsed.now)) }
-        ensures nodes { nodes.new.items.items ≡ emitted (world M.matches O.depends self.now) 0 (map (word_of self.now) parsed.now) }
-        ensures names { names.new.items.items ≡ copied (map (word_of self.now) parsed.now) }
-    {
-        nodes.items.clear();
-        names.items.clear();
-        self.lower_nodes(parsed, &mut nodes.items, &mut names.items, reports);
-    }
-
-    // Lowers nodes into a filter, and refuses them if some find nothing.
+    // Lowers nodes into a filter in place of what it held, and refuses them if some find nothing.
     fn lower(
         &self,
         parsed: &[ParsedNode],
@@ -246,7 +227,10 @@ impl<M: Matcher, O: DependencyOracle> Ground<'_, M, O> {
             count: 0,
             first: None,
         };
-        self.lower_anew(parsed, &mut filter.nodes, &mut filter.names, &mut made);
+        let Filter { nodes, names, .. } = filter;
+        nodes.items.clear();
+        names.items.clear();
+        self.lower_nodes(parsed, &mut nodes.items, &mut names.items, &mut made);
         match made.first {
             Some(place) => Err(LoweringFault::NothingFound {
                 place,

@@ -17,10 +17,10 @@ returns-in-Some g c =
     let words = map (word_of c.args.self.now) c.args.parsed.now in
     let rs = noted w words in
     let few : length rs < 2 ^ 32 = omega (arith, c.requires.few, few-noted w words, length-map c.args.parsed.now (word_of c.args.self.now)) in
-    let is = c.lower_anew.ensures.log ∙ logged-is _ rs (omega arith) in
+    let is = c.lower_nodes.ensures.lowers.log ∙ logged-is _ rs (omega arith) in
     let table = ap (λ (z : Log). z.table) is in
     let lent = ap (λ (z : Log). z.lent) is in
-    let count : c.lower_anew.new.reports.count ≡ length rs = omega (arith, ap (λ (z : Log). z.count) is) in
+    let count : c.lower_nodes.new.reports.count ≡ length rs = omega (arith, ap (λ (z : Log). z.count) is) in
     record {
       table = search (rules, table, lent);
       answer = ap (λ (z : Option LoweringFault). answer z) (fault-some NothingFound rs c.in-Some.place _ (sym c.in-Some.is ∙ ap (λ (z : Log). z.first) is) count);
@@ -34,7 +34,7 @@ returns-in-None g c =
     let words = map (word_of c.args.self.now) c.args.parsed.now in
     let rs = noted w words in
     let few : length rs < 2 ^ 32 = omega (arith, c.requires.few, few-noted w words, length-map c.args.parsed.now (word_of c.args.self.now)) in
-    let is = c.lower_anew.ensures.log ∙ logged-is _ rs (omega arith) in
+    let is = c.lower_nodes.ensures.lowers.log ∙ logged-is _ rs (omega arith) in
     let table = ap (λ (z : Log). z.table) is in
     let lent = ap (λ (z : Log). z.lent) is in
     record {
