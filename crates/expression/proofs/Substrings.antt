@@ -1,7 +1,7 @@
 -- The test for a value in a name, against a start, the value and a rest.
 use Rattle.std.proofs.Common.{◌≡◌, ℕ, true, List, [], ◌∷◌, ◌++◌, length, drop, Decides, ap, ◌∙◌, inl, inr}
 use Rattle.std.proofs.lemmas.Bool.{or_cases, or_left, or_right}
-use Rattle.expression.specs.Fitting.{begins-rest, begins-whole}
+use Rattle.expression.specs.Lawful.{begins-rest, begins-whole}
 use Rattle.expression.specs.Names.{StandsIn, begins, holds}
 
 begins-there : (v n : List ℕ) → begins v n ≡ true → StandsIn v n

@@ -8,7 +8,6 @@ pub mod Stack
 pub mod Evaluation
 pub mod NumberSets
 pub mod Rosters
-pub mod Fitting
 pub mod Dependencies
 pub mod Oracles
 pub mod Closing

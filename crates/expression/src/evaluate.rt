@@ -59,7 +59,13 @@ impl<L: Copy> Stack<'_, L> {
         ensures values { option_map (λ _. held self.new) result ≡ acts L.ops (C.shows leaves.now) (room self.old) node (held self.old) }
     {
         match node {
-            Node::Leaf(leaf) => self.push(leaves.value(leaf)),
+            Node::Leaf(leaf) => {
+                // A leaf is asked only where its value has a place.
+                if self.used == self.places.len() {
+                    return None;
+                }
+                self.push(leaves.value(leaf))
+            }
             Node::Not => {
                 let a = self.pop()?;
                 self.push(a.logic_not())

@@ -4,7 +4,7 @@
 // Which group a test is in, by number: rosters take the place of a lookup of groups by name.
 ghost use Rattle.std.specs.Prelude.{◌≡◌, ℕ, Bool, List, Decides};
 ghost use Rattle.expression.specs.Queries.{Test, test_of};
-ghost use Rattle.expression.specs.Fitting.{row_decides, prefix_decides};
+ghost use Rattle.expression.specs.Lawful.{row_decides, prefix_decides};
 ghost use Rattle.expression.specs.Rosters.{row_fits, prefix_fits, first_fit, RowFits, PrefixFits, FirstDecides};
 
 use crate::queries::TestQuery;

@@ -15,8 +15,7 @@ impl Place {
     pub fn of<'a>(self, text: &'a [u8]) -> Option<&'a [u8]>
         ensures { option_map (λ x. x.now) result ≡ part_of text.now self }
     {
-        let end = self.start.checked_add(self.length)?;
-        text.get(self.start..end)
+        text.get(self.start..)?.get(..self.length)
     }
 
     // Whether the place lies in the text and the word stands there.

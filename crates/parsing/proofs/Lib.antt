@@ -16,7 +16,6 @@ mod LawRuns
 mod LawNames
 mod LawArguments
 mod LawWhite
-pub mod Trim
 mod LawSets
 mod LawSound
 mod LawPlaces

@@ -1,11 +1,9 @@
 -- Which word of a table a text begins with.
-use Rattle.std.proofs.Common.{◌≡◌, ℕ, ◌+◌, ◌-◌, ◌<◌, ◌≤◌, Bool, true, false, cond, not, ◌&&◌, eqb, ltb, List, [], ◌∷◌, ◌++◌, map, length, get_or, take, drop, Some, None, Option, MatchOption, Bor, sym, refl, ap, ◌∙◌, inl, inr, add-zero, arith}
-use Rattle.std.specs.List.{find, list_all}
+use Rattle.std.proofs.Common.{◌≡◌, ℕ, ◌+◌, ◌-◌, ◌<◌, ◌≤◌, Bool, true, false, cond, not, ltb, List, [], ◌∷◌, ◌++◌, map, length, get_or, take, drop, Some, None, Option, sym, refl, ap, ◌∙◌, inl, inr, add-zero, arith}
+use Rattle.std.specs.List.{list_all}
 use Rattle.std.specs.Option.{option_map}
-use Rattle.std.specs.Cmp.Lexicographic.{pointwise}
 use Rattle.std.proofs.lemmas.List.{get_or-drop, take_rest, drop_all, length-drop}
 use Rattle.std.proofs.lemmas.Bool.{and_parts, ltb-true, lt-ltb, le-ltb, cases_lt}
-use Rattle.std.proofs.lemmas.Bool.Decides.{nat_tests}
 use Rattle.unicode_string.specs.Text.{is_word}
 use Rattle.errors.specs.declared.reports.ReportKind.{ReportKind}
 use Rattle.parsing.specs.declared.nodes.Operator.{Operator}
@@ -14,66 +12,15 @@ use Rattle.parsing.specs.declared.words.Opening.{Opening}
 use Rattle.parsing.specs.declared.words.Sign.{Sign}
 use Rattle.parsing.specs.declared.words.Word.{Word}
 use Rattle.parsing.specs.declared.words.Word.TheVariants.{Letters, Keyword}
-use Rattle.parsing.specs.Text.{is_at, begins_at, keyword_at}
-use Rattle.parsing.specs.Words.{Entry, letters, keyword, entry_at, first_at, or_else, Joins, opening, opening_at, sign, or_sign_at, and_sign_at, mark_at, set_entries, sign_entries, or_entries, and_entries, bytes_of, begun_by, entry_of, read_of}
+use Rattle.parsing.specs.Text.{is_at, begins_at}
+use Rattle.parsing.specs.Words.{Entry, paired, entry_at, first_at, or_else, Joins, opening, opening_at, sign, or_sign_at, and_sign_at, mark_at, set_entries, sign_entries, or_entries, and_entries, bytes_of, begun_by, read_of}
 use Rattle.parsing.proofs.Fits.{begins-fits}
-use Rattle.parsing.proofs.LawWords.{prefix_of, begins-prefix, first_on_lem}
-
-same_as : (a b : ℕ) → eqb a b ≡ eqb b a
-same_as a b = grind (arith, nat_tests)
-
--- as the library compares
-prefix-is : (w s : List ℕ) → prefix_of w s ≡ pointwise eqb (take (length w) s) w
-prefix-is [] s = refl
-prefix-is (b ∷ w) [] = refl
-prefix-is (b ∷ w) (c ∷ s) = ap (λ v. eqb c b && v) (prefix-is w s)
-
-prefix-turned : (w s : List ℕ) → prefix_of w s ≡ pointwise eqb w (take (length w) s)
-prefix-turned [] s = refl
-prefix-turned (b ∷ w) [] = refl
-prefix-turned (b ∷ w) (c ∷ s) = (λ i. same_as c b i && prefix-turned w s i)
-
-pub letters-is : (t w : List ℕ) → pointwise eqb w (take (length w) t) ≡ begins_at t 0 w
-letters-is t w = sym (begins-prefix t 0 w ∙ prefix-turned w t)
-
-pub keyword-is : {Q : Bor (List ℕ) → Type 0} (t w : List ℕ) (a : Bool) (r : Option (Bor (List ℕ))) → ((x : Bor (List ℕ)) → Q x → a ≡ not (is_word (get_or x.now 0 0))) →
-    MatchOption r (pointwise eqb (take (length w) t) w ≡ false) (λ x. (pointwise eqb (take (length w) t) w ≡ true) × (x.now ≡ drop (length w) t) × (length x.now + length w ≡ length t)) →
-    MatchOption r (a ≡ false) Q → a ≡ keyword_at t 0 w
-keyword-is t w a None f h q = q ∙ sym (ap (λ v. v && not (is_word (get_or t (0 + length w) 0))) (begins-prefix t 0 w ∙ prefix-is w t ∙ h))
-keyword-is t w a (Some x) f h q =
-    f x q ∙ ap (λ n. not (is_word n)) (ap (λ l. get_or l 0 0) h.1 ∙ get_or-drop (length w) t 0 0 ∙ ap (λ k. get_or t k 0) (let e : length w + 0 ≡ 0 + length w = omega arith in e))
-    ∙ sym (ap (λ v. v && not (is_word (get_or t (0 + length w) 0))) (begins-prefix t 0 w ∙ prefix-is w t ∙ h.0))
-
--- the first word of a table that a text begins with
-abbrev pub told : {X : Type 0} → Word × X → ℕ × X
-told e = (length (bytes_of e.0), e.1)
-
-first-told : {X : Type 0} (t : List ℕ) (es : List (Word × X)) → option_map told (find (λ e. begun_by t e.0) es) ≡ read_of (first_at (map entry_of es) t 0)
-first-told t [] = refl
-first-told t ((Letters w, x) ∷ es) = let ih = first-told t es in
-    elim (begins_at t 0 w.now) as (λ b. option_map told (cond b (Some (Letters w, x)) (find (λ e. begun_by t e.0) es)) ≡ read_of (cond b (Some (letters w.now x)) (first_at (map entry_of es) t 0))) [ true ↦ refl | false ↦ ih ]
-first-told t ((Keyword w, x) ∷ es) = let ih = first-told t es in
-    elim (keyword_at t 0 w.now) as (λ b. option_map told (cond b (Some (Keyword w, x)) (find (λ e. begun_by t e.0) es)) ≡ read_of (cond b (Some (keyword w.now x)) (first_at (map entry_of es) t 0))) [ true ↦ refl | false ↦ ih ]
-
-pub told-by : {X : Type 0} (t : List ℕ) (es : List (Word × X)) (r : Option (Bor (Word × X))) → option_map (λ x. x.now) r ≡ find (λ e. begun_by t e.0) es → option_map (λ x. told x.now) r ≡ read_of (first_at (map entry_of es) t 0)
-told-by t es None e = ap (option_map told) e ∙ first-told t es
-told-by t es (Some x) e = ap (option_map told) e ∙ first-told t es
+use Rattle.parsing.proofs.LawWords.{first_on_lem}
 
 -- it fits
-find-passes : {X : Type 0} (p : X → Bool) (xs : List X) (x : X) → Some x ≡ find p xs → p x ≡ true
-find-passes p [] x e = absurd (let z : ◌≡◌ {A = ℕ} 0 1 = cc in omega arith)
-find-passes p (y ∷ ys) x e = go (p y) refl (find-passes p ys x) e
-  where
-    go : (b : Bool) → p y ≡ b → (Some x ≡ find p ys → p x ≡ true) → Some x ≡ cond b (Some y) (find p ys) → p x ≡ true
-    go true h ih q = let same : x ≡ y = cc in ap p same ∙ h
-    go false h ih q = ih q
-
-begun-fits : (t : List ℕ) (w : Word) → begun_by t w ≡ true → length (bytes_of w) ≤ length t
+pub begun-fits : (t : List ℕ) (w : Word) → begun_by t w ≡ true → length (bytes_of w) ≤ length t
 begun-fits t (Letters w) h = omega (arith, begins-fits t w.now 0 (omega arith) h)
 begun-fits t (Keyword w) h = omega (arith, begins-fits t w.now 0 (omega arith) (and_parts (begins_at t 0 w.now) (not (is_word (get_or t (0 + length w.now) 0))) h).0)
-
-pub found-fits : {X : Type 0} (t : List ℕ) (es : List (Word × X)) (x : Word × X) → Some x ≡ find (λ e. begun_by t e.0) es → length (bytes_of x.0) ≤ length t
-found-fits t es x e = begun-fits t x.0 (find-passes (λ e. begun_by t e.0) es x e)
 
 -- no word is empty
 pub first-some : {X : Type 0} (es : List (Entry X)) (t : List ℕ) (r : ℕ × X) → list_all (λ e. ltb 0 (length e.word)) es ≡ true → Some r ≡ read_of (first_at es t 0) → 0 < r.0
@@ -107,9 +54,6 @@ opening-is t r e =
     ∙ opening-else (first_at set_entries t 0) (first_at sign_entries t 0)
 
 -- the signs of a table, as pairs
-abbrev pub paired : Entry Joins → Entry (Operator × Option ReportKind)
-paired e = record { word = e.word; whole = e.whole; says = (e.says.operator, e.says.fault) }
-
 abbrev pub signed : ℕ × (Operator × Option ReportKind) → Sign
 signed r = record { operator = r.1.0; fault = r.1.1; length = r.0 }
 

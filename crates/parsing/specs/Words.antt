@@ -61,7 +61,7 @@ letters w x = record { word = w; whole = false; says = x }
 abbrev pub keyword : {X : Type 0} → List ℕ → X → Entry X
 keyword w x = record { word = w; whole = true; says = x }
 
--- the bytes of a word of the program's tables, whether a text begins with it, and what it is an entry for
+-- the bytes of a word of the program, and whether a text begins with it
 abbrev pub bytes_of : Word → List ℕ
 bytes_of (words.Letters w) = w.now
 bytes_of (words.Keyword w) = w.now
@@ -69,10 +69,6 @@ bytes_of (words.Keyword w) = w.now
 abbrev pub begun_by : List ℕ → Word → Bool
 begun_by t (words.Letters w) = begins_at t 0 w.now
 begun_by t (words.Keyword w) = keyword_at t 0 w.now
-
-abbrev pub entry_of : {X : Type 0} → Word × X → Entry X
-entry_of (words.Letters w, x) = letters w.now x
-entry_of (words.Keyword w, x) = keyword w.now x
 
 abbrev pub entry_at : {X : Type 0} → List ℕ → ℕ → Entry X → Bool
 entry_at t p e = cond e.whole (keyword_at t p e.word) (begins_at t p e.word)
@@ -116,6 +112,10 @@ joins o = record { operator = o; fault = None }
 
 abbrev pub foreign : Operator → ReportKind → Joins
 foreign o k = record { operator = o; fault = Some k }
+
+-- the same as a pair
+abbrev pub paired : Entry Joins → Entry (Operator × Option ReportKind)
+paired e = record { word = e.word; whole = e.whole; says = (e.says.operator, e.says.fault) }
 
 abbrev pub or_entries : List (Entry Joins)
 or_entries =

@@ -2,13 +2,12 @@
 // SPDX-License-Identifier: MIT OR Apache-2.0
 
 // Blanks, white space and brackets of a text.
-ghost use Rattle.std.specs.Prelude.{◌≡◌, ◌≤◌, length, ◌==◌, ◌&&◌, nat_lt, slice_index, MatchOption};
-ghost use Rattle.std.specs.Str.{IsUtf8, IsTrim, trim};
-ghost use Rattle.parsing.specs.Text.{is_blank, skip, closing, white_end};
-ghost use Rattle.parsing.specs.Reading.{platform_of};
+ghost use Rattle.std.specs.Prelude.{◌≡◌, ◌+◌, ◌<◌, ◌≤◌, length, ◌==◌, ◌&&◌, nat_lt, slice_index};
+ghost use Rattle.parsing.specs.Text.{is_blank, skip, closing, white_of, white_at, white_end};
+ghost use Rattle.parsing.specs.Reading.{platform_of, says_word};
 
+use crate::words::begins;
 use expression::queries::BuildPlatform;
-use std::str::from_utf8;
 
 // Whether the rest begins with a blank: a space or LF, or CR before LF.
 fn begins_blank(rest: &[u8]) -> bool
@@ -45,27 +44,88 @@ pub(crate) fn closing_bracket(text: &[u8], from: usize) -> usize
         .unwrap_or(rest.len())
 }
 
-// The text without the white space around it, or none if it is not UTF-8.
-fn trimmed(text: &[u8]) -> Option<&str>
-    ensures { MatchOption result (¬ IsUtf8 text.now) (λ t. IsTrim text.now t.now × (t.now ≡ trim text.now)) }
+// White space is told by its bytes: the library's check of the text and `trim` take two to three times as long.
+
+// The byte at `at`, and 0 past the end.
+fn byte_at(text: &[u8], at: usize) -> u8
+    ensures { result ≡ slice_index text.now at }
 {
-    Some(from_utf8(text).ok()?.trim())
+    if at < text.len() { text[at] } else { 0 }
+}
+
+// The bytes of the character of white space that begins with these bytes, 0 if they begin none.
+fn white_of(first: u8, second: u8, third: u8) -> usize
+    ensures { result ≡ white_of first second third }
+{
+    match (first, second, third) {
+        (9..=13 | 32, _, _) => 1,
+        (194, 133 | 160, _) => 2,
+        (225, 154, 128) => 3,
+        (226, 128, 128..=138 | 168 | 169 | 175) => 3,
+        (226, 129, 159) => 3,
+        (227, 128, 128) => 3,
+        _ => 0,
+    }
+}
+
+// The bytes of the character of white space at `at`, 0 if there is none.
+fn white_at(text: &[u8], at: usize) -> usize
+    requires { at < length text.now }
+    ensures value { result ≡ white_at text.now at }
+    ensures fits { at + result ≤ length text.now }
+{
+    white_of(
+        byte_at(text, at),
+        byte_at(text, at + 1),
+        byte_at(text, at + 2),
+    )
+}
+
+// The place after the white space at `from`.
+fn white_end(text: &[u8], from: usize) -> usize
+    requires { from ≤ length text.now }
+    ensures value { result ≡ white_end text.now from }
+    ensures within { result ≤ length text.now }
+{
+    let mut at = from;
+    while at < text.len() {
+        let length = white_at(text, at);
+        if length == 0 {
+            return at;
+        }
+        at += length;
+    }
+    at
 }
 
 // Whether there is only white space.
 pub(crate) fn is_white(text: &[u8]) -> bool
     ensures { result ≡ (white_end text.now 0 == length text.now) }
 {
-    trimmed(text).is_some_and(str::is_empty)
+    white_end(text, 0) == text.len()
+}
+
+// Whether the word stands at `at` with only white space after it.
+fn says(name: &[u8], at: usize, word: &[u8]) -> bool
+    requires { at ≤ length name.now }
+    ensures { result ≡ says_word name.now word.now at }
+{
+    if !begins(name, at, word) {
+        return false;
+    }
+    white_end(name, at + word.len()) == name.len()
 }
 
 // The platform that a name says, with white space around it.
 pub(crate) fn platform_of(name: &[u8]) -> Option<BuildPlatform>
     ensures { result ≡ platform_of name.now }
 {
-    match trimmed(name)? {
-        "host" => Some(BuildPlatform::Host),
-        "target" => Some(BuildPlatform::Target),
-        _ => None,
+    let start = white_end(name, 0);
+    if says(name, start, b"host") {
+        return Some(BuildPlatform::Host);
     }
+    if says(name, start, b"target") {
+        return Some(BuildPlatform::Target);
+    }
+    None
 }

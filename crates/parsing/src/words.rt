@@ -2,10 +2,11 @@
 // SPDX-License-Identifier: MIT OR Apache-2.0
 
 // What the rest of a text begins with: set names, signs and marks.
-ghost use Rattle.std.specs.Prelude.{◌≡◌, ◌<◌, ◌≤◌, not, length, map, IfSome, slice_index};
+ghost use Rattle.std.specs.Prelude.{◌≡◌, ◌+◌, ◌<◌, ◌≤◌, true, not, length, map, IfSome, ◌++◌, slice_index};
 ghost use Rattle.unicode_string.specs.Text.{is_word};
 ghost use Rattle.parsing.specs.declared.words.Mark.TheVariants as mark;
-ghost use Rattle.parsing.specs.Words.{first_at, bytes_of, begun_by, entry_of, read_of, opening_at, or_sign_at, and_sign_at, mark_at};
+ghost use Rattle.parsing.specs.Text.{begins_at, keyword_at};
+ghost use Rattle.parsing.specs.Words.{first_at, bytes_of, begun_by, read_of, paired, set_entries, sign_entries, or_entries, and_entries, opening_at, or_sign_at, and_sign_at, mark_at};
 
 use crate::nodes::Operator::{self, Difference, Intersection, Union};
 use crate::nodes::Predicate::{self, Binary, BinaryId, Deps, Group, Kind, Package, Rdeps, Test};
@@ -70,65 +71,51 @@ enum Word {
     Keyword(&'static [u8]),
 }
 
-// What an operand begins with. No set name is the start of one below it: `binary` comes after `binary_id`.
-static OPENINGS: [(Word, Lead); 22] = [
-    (Letters(b"package"), Lead::Set(SetName::Matched(Package))),
-    (Letters(b"deps"), Lead::Set(SetName::Matched(Deps))),
-    (Letters(b"rdeps"), Lead::Set(SetName::Matched(Rdeps))),
-    (Letters(b"kind"), Lead::Set(SetName::Matched(Kind))),
-    (Letters(b"binary_id"), Lead::Set(SetName::Matched(BinaryId))),
-    (Letters(b"binary"), Lead::Set(SetName::Matched(Binary))),
-    (Letters(b"test"), Lead::Set(SetName::Matched(Test))),
-    (Letters(b"group"), Lead::Set(SetName::Matched(Group))),
-    (Letters(b"platform"), Lead::Set(SetName::Platform)),
-    (
-        Letters(b"default"),
-        Lead::Set(SetName::Nullary(Nullary::Default)),
-    ),
-    (Letters(b"all"), Lead::Set(SetName::Nullary(Nullary::All))),
-    (Letters(b"none"), Lead::Set(SetName::Nullary(Nullary::None))),
-    (Keyword(b"not"), Lead::Not),
-    (Letters(b"!"), Lead::Not),
-    (Letters(b"("), Lead::Group),
-    (Keyword(b"and"), Lead::Misplaced(ExprFoundBinaryOp)),
-    (Keyword(b"or"), Lead::Misplaced(ExprFoundBinaryOp)),
-    (Keyword(b"AND"), Lead::Misplaced(ExprFoundBinaryOp)),
-    (Keyword(b"OR"), Lead::Misplaced(ExprFoundBinaryOp)),
-    (Letters(b"&&"), Lead::Misplaced(ExprFoundBinaryOp)),
-    (Letters(b"||"), Lead::Misplaced(ExprFoundBinaryOp)),
-    (Keyword(b"NOT"), Lead::Misplaced(ExprFoundUnaryOp)),
-];
-
-// The signs that join operands of an or-expression.
-static OR_SIGNS: [(Word, (Operator, Option<ReportKind>)); 5] = [
-    (Letters(b"||"), (Union, Some(InvalidOrOperator))),
-    (Keyword(b"OR"), (Union, Some(InvalidOrOperator))),
-    (Keyword(b"or"), (Union, None)),
-    (Letters(b"|"), (Union, None)),
-    (Letters(b"+"), (Union, None)),
-];
-
-// The signs that join operands of an and-expression.
-static AND_SIGNS: [(Word, (Operator, Option<ReportKind>)); 5] = [
-    (Letters(b"&&"), (Intersection, Some(InvalidAndOperator))),
-    (Keyword(b"AND"), (Intersection, Some(InvalidAndOperator))),
-    (Keyword(b"and"), (Intersection, None)),
-    (Letters(b"&"), (Intersection, None)),
-    (Letters(b"-"), (Difference, None)),
-];
-
-// Whether no word goes on with the rest.
-#[tactic(auto, unfolding(unicode_string::specs::Text::is_word))]
-fn is_boundary(rest: &[u8]) -> bool
-    ensures { result ≡ not (is_word (slice_index rest.now 0)) }
+// The word stands at `at`. Byte by byte, so that a test for a known word comes down to tests on its bytes.
+#[inline(always)]
+pub(crate) fn begins(text: &[u8], at: usize, word: &[u8]) -> bool
+    requires { at ≤ length text.now }
+    ensures value { result ≡ begins_at text.now at word.now }
+    ensures fits { result ≡ true → at + length word.now ≤ length text.now }
 {
-    match rest {
-        [byte, ..] => !is_word(*byte),
-        [] => true,
+    let mut i = 0;
+    while i < word.len() {
+        if at + i >= text.len() {
+            return false;
+        }
+        if text[at + i] != word[i] {
+            return false;
+        }
+        i += 1;
     }
+    true
+}
+
+// Whether no word goes on at `at`.
+fn word_boundary(text: &[u8], at: usize) -> bool
+    ensures { result ≡ not (is_word (slice_index text.now at)) }
+{
+    if at >= text.len() {
+        return true;
+    }
+    !is_word(text[at])
+}
+
+// The word stands at `at`, and no word byte after it.
+#[inline(always)]
+fn keyword(text: &[u8], at: usize, word: &[u8]) -> bool
+    requires { at ≤ length text.now }
+    ensures value { result ≡ keyword_at text.now at word.now }
+    ensures fits { result ≡ true → at + length word.now ≤ length text.now }
+{
+    if !begins(text, at, word) {
+        return false;
+    }
+    word_boundary(text, at + word.len())
 }
 
 impl Word {
+    #[inline(always)]
     fn bytes(self) -> &'static [u8]
         ensures { result.now ≡ bytes_of self }
     {
@@ -138,23 +125,88 @@ impl Word {
     }
 
     // Whether the rest begins with it.
+    #[inline(always)]
     fn begins(self, rest: &[u8]) -> bool
-        ensures { result ≡ begun_by rest.now self }
+        ensures value { result ≡ begun_by rest.now self }
+        ensures fits { result ≡ true → length (bytes_of self) ≤ length rest.now }
     {
         match self {
-            Letters(bytes) => rest.starts_with(bytes),
-            Keyword(bytes) => rest.strip_prefix(bytes).is_some_and(is_boundary),
+            Letters(bytes) => begins(rest, 0, bytes),
+            Keyword(bytes) => keyword(rest, 0, bytes),
         }
     }
 }
 
-// The bytes of the first word of the table that the rest begins with, and what it says.
-fn first_of<T: Copy>(table: &[(Word, T)], rest: &[u8]) -> Option<(usize, T)>
-    ensures value { result ≡ read_of (first_at (map entry_of table.now) rest.now 0) }
+// The bytes of the first of these words that the rest begins with, and what it says. The words stand in the code, so that each
+// test is on bytes that are known: a search of a table of values takes three to six times as long.
+macro_rules! first_of {
+    ($rest:expr; $(($word:expr, $says:expr)),* $(,)?) => {{
+        $(
+            if $word.begins($rest) {
+                return Some(($word.bytes().len(), $says));
+            }
+        )*
+        None
+    }};
+}
+
+// What an operand begins with. No set name is the start of one below it: `binary` comes after `binary_id`.
+fn first_opening(rest: &[u8]) -> Option<(usize, Lead)>
+    ensures value { result ≡ read_of (first_at (set_entries ++ sign_entries) rest.now 0) }
     ensures fits { IfSome result (λ r. r.0 ≤ length rest.now) }
 {
-    let (word, says) = table.iter().find(|(word, _)| word.begins(rest))?;
-    Some((word.bytes().len(), *says))
+    first_of!(rest;
+        (Letters(b"package"), Lead::Set(SetName::Matched(Package))),
+        (Letters(b"deps"), Lead::Set(SetName::Matched(Deps))),
+        (Letters(b"rdeps"), Lead::Set(SetName::Matched(Rdeps))),
+        (Letters(b"kind"), Lead::Set(SetName::Matched(Kind))),
+        (Letters(b"binary_id"), Lead::Set(SetName::Matched(BinaryId))),
+        (Letters(b"binary"), Lead::Set(SetName::Matched(Binary))),
+        (Letters(b"test"), Lead::Set(SetName::Matched(Test))),
+        (Letters(b"group"), Lead::Set(SetName::Matched(Group))),
+        (Letters(b"platform"), Lead::Set(SetName::Platform)),
+        (Letters(b"default"), Lead::Set(SetName::Nullary(Nullary::Default))),
+        (Letters(b"all"), Lead::Set(SetName::Nullary(Nullary::All))),
+        (Letters(b"none"), Lead::Set(SetName::Nullary(Nullary::None))),
+        (Keyword(b"not"), Lead::Not),
+        (Letters(b"!"), Lead::Not),
+        (Letters(b"("), Lead::Group),
+        (Keyword(b"and"), Lead::Misplaced(ExprFoundBinaryOp)),
+        (Keyword(b"or"), Lead::Misplaced(ExprFoundBinaryOp)),
+        (Keyword(b"AND"), Lead::Misplaced(ExprFoundBinaryOp)),
+        (Keyword(b"OR"), Lead::Misplaced(ExprFoundBinaryOp)),
+        (Letters(b"&&"), Lead::Misplaced(ExprFoundBinaryOp)),
+        (Letters(b"||"), Lead::Misplaced(ExprFoundBinaryOp)),
+        (Keyword(b"NOT"), Lead::Misplaced(ExprFoundUnaryOp)),
+    )
+}
+
+// The signs that join operands of an or-expression.
+fn first_or_sign(rest: &[u8]) -> Option<(usize, (Operator, Option<ReportKind>))>
+    ensures value { result ≡ read_of (first_at (map paired or_entries) rest.now 0) }
+    ensures fits { IfSome result (λ r. r.0 ≤ length rest.now) }
+{
+    first_of!(rest;
+        (Letters(b"||"), (Union, Some(InvalidOrOperator))),
+        (Keyword(b"OR"), (Union, Some(InvalidOrOperator))),
+        (Keyword(b"or"), (Union, None)),
+        (Letters(b"|"), (Union, None)),
+        (Letters(b"+"), (Union, None)),
+    )
+}
+
+// The signs that join operands of an and-expression.
+fn first_and_sign(rest: &[u8]) -> Option<(usize, (Operator, Option<ReportKind>))>
+    ensures value { result ≡ read_of (first_at (map paired and_entries) rest.now 0) }
+    ensures fits { IfSome result (λ r. r.0 ≤ length rest.now) }
+{
+    first_of!(rest;
+        (Letters(b"&&"), (Intersection, Some(InvalidAndOperator))),
+        (Keyword(b"AND"), (Intersection, Some(InvalidAndOperator))),
+        (Keyword(b"and"), (Intersection, None)),
+        (Letters(b"&"), (Intersection, None)),
+        (Letters(b"-"), (Difference, None)),
+    )
 }
 
 // What an operand begins with.
@@ -162,7 +214,7 @@ pub(crate) fn opening_at(rest: &[u8]) -> Option<Opening>
     ensures value { result ≡ opening_at rest.now 0 }
     ensures fits { IfSome result (λ o. (0 < o.length) × (o.length ≤ length rest.now)) }
 {
-    let (length, lead) = first_of(&OPENINGS, rest)?;
+    let (length, lead) = first_opening(rest)?;
     Some(Opening { lead, length })
 }
 
@@ -171,7 +223,7 @@ pub(crate) fn or_sign_at(rest: &[u8]) -> Option<Sign>
     ensures value { result ≡ or_sign_at rest.now 0 }
     ensures fits { IfSome result (λ s. (0 < s.length) × (s.length ≤ length rest.now)) }
 {
-    let (length, (operator, fault)) = first_of(&OR_SIGNS, rest)?;
+    let (length, (operator, fault)) = first_or_sign(rest)?;
     Some(Sign {
         operator,
         fault,
@@ -184,7 +236,7 @@ pub(crate) fn and_sign_at(rest: &[u8]) -> Option<Sign>
     ensures value { result ≡ and_sign_at rest.now 0 }
     ensures fits { IfSome result (λ s. (0 < s.length) × (s.length ≤ length rest.now)) }
 {
-    let (length, (operator, fault)) = first_of(&AND_SIGNS, rest)?;
+    let (length, (operator, fault)) = first_and_sign(rest)?;
     Some(Sign {
         operator,
         fault,

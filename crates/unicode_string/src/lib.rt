@@ -47,7 +47,7 @@ pub struct Texts<'a> {
 
 // What reading a name comes to: the name, unless it was reported as faulty; the place after it; how many reports there are
 // now; how far the decoding space is used; and where its first report starts.
-#[derive(Clone, Copy)]
+#[derive(Clone, Copy, PartialEq, Eq, Debug)]
 pub struct NameRead {
     pub name: Option<Name>,
     pub end: usize,
