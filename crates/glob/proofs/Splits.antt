@@ -1,9 +1,8 @@
 -- What reading one thing at the start of some bytes says of all that is read there.
-use Rattle.std.proofs.Common.{◌≡◌, ℕ, ◌+◌, ◌-◌, ◌<◌, ◌≤◌, Bool, true, false, cond, ◌&&◌, ◌||◌, ◌==◌, eqb, ltb, List, [], ◌∷◌, length, get_or, take, drop, is_some, Some, None, Option, sym, refl, ap, ◌∙◌, arith}
-use Rattle.std.proofs.lemmas.List.{drop-drop, length-drop, take_rest}
+use Rattle.std.proofs.Common.{◌≡◌, ℕ, ◌+◌, ◌<◌, Bool, true, false, cond, ◌&&◌, ◌==◌, ltb, List, [], ◌∷◌, length, drop, is_some, Some, None, Option, sym, refl, ap, ◌∙◌, arith}
+use Rattle.std.proofs.lemmas.List.{drop-drop, length-drop}
 use Rattle.std.proofs.lemmas.Bool.{and_from, and_left, and_right, lt-ltb, ne_eqb}
-use Rattle.std.proofs.lemmas.Bool.Decides.{nat_tests}
-use Rattle.glob.specs.Glob.{Range, Item, is_member, takes}
+use Rattle.glob.specs.Glob.{Range, Item, takes}
 use Rattle.glob.specs.Glob.Item.{any_run, one, byte, listed}
 use Rattle.glob.specs.Reading.{Read, read, head_is, members_of, any_tail, takes_one, member_of, item_of, span_of, ranges_of, items_of, ended, joined, eats, globs, match_of, matches}
 use Rattle.glob.specs.Tokens.{split}
@@ -133,35 +132,3 @@ module _ (negated : Bool) (s : List ℕ) where
         let d : drop 1 rest ≡ drop (0 + span_of s + 1) s = ap (drop 1) e ∙ drop-drop 1 (span_of s) s ∙ ap (λ (j : ℕ). drop j s) k in
         ap (λ (v : List ℕ). Some (listed negated (ranges_of s), v)) d
         ∙ sym (ap answer (and_from (ltb 0 (span_of s)) (head_is 93 (drop (span_of s) s)) (lt-ltb 0 (span_of s) h) (sym (ap (head_is 93) e) ∙ c)))
-
--- a list's item is read from what follows `[!` or `[`
-drop-before : (negated : Bool) (k : ℕ) (p s : List ℕ) → drop k p ≡ s → split p (members_of negated k s) ≡ split s (members_of negated 0 s)
-drop-before negated k p s e = by (ltb 0 (span_of s) && head_is 93 (drop (span_of s) s))
-  where
-    by : (b : Bool) → split p (cond b (read (listed negated (ranges_of s)) (k + span_of s + 1)) None) ≡ split s (cond b (read (listed negated (ranges_of s)) (0 + span_of s + 1)) None)
-    by true =
-        let q : k + (0 + span_of s + 1) ≡ k + span_of s + 1 = omega arith in
-        let d : drop (k + span_of s + 1) p ≡ drop (0 + span_of s + 1) s = ap (λ (j : ℕ). drop j p) (sym q) ∙ sym (drop-drop (0 + span_of s + 1) k p) ∙ ap (drop (0 + span_of s + 1)) e in
-        ap (λ (u : List ℕ). Some (listed negated (ranges_of s), u)) d
-    by false = refl
-
-pub item_unlisted : (p : List ℕ) → 2 ≤ length p → get_or p 0 0 ≡ 91 → get_or p 1 0 ≡ 33 →
-    split p (item_of p) ≡ split (take (length p - 2) (drop 2 p)) (members_of true 0 (take (length p - 2) (drop 2 p)))
-item_unlisted (a ∷ b ∷ s) h e f = rw (take_rest (a ∷ b ∷ s) 2, e, f) (drop-before true 2 (91 ∷ 33 ∷ s) s refl)
-item_unlisted [] h e f = absurd (omega arith)
-item_unlisted (a ∷ []) h e f = absurd (omega arith)
-
-pub item_listed : (p : List ℕ) → 1 ≤ length p → get_or p 0 0 ≡ 91 → (get_or p 1 0 ≡ 33 → ⊥) →
-    split p (item_of p) ≡ split (take (length p - 1) (drop 1 p)) (members_of false 0 (take (length p - 1) (drop 1 p)))
-item_listed [] h e f = absurd (omega arith)
-item_listed (a ∷ []) h e f = rw (take_rest (a ∷ []) 1, e) (drop-before false 1 (91 ∷ []) [] refl)
-item_listed (a ∷ b ∷ s) h e f = rw (take_rest (a ∷ b ∷ s) 1, e, ne_eqb b 33 f) (drop-before false 1 (91 ∷ b ∷ s) (b ∷ s) refl)
-
--- a byte of names stands for itself
-member-plain : (b : ℕ) → is_member b ≡ true → (eqb b 42 ≡ false) × (eqb b 63 ≡ false) × (eqb b 92 ≡ false) × (eqb b 91 ≡ false) × ((eqb b 123 || eqb b 125) ≡ false)
-unfolding is_member
-member-plain b e = (grind (arith, nat_tests), grind (arith, nat_tests), grind (arith, nat_tests), grind (arith, nat_tests), grind (arith, nat_tests))
-
-pub item_plain : (p : List ℕ) → 1 ≤ length p → is_member (get_or p 0 0) ≡ true → split p (item_of p) ≡ Some (byte (get_or p 0 0), take (length p - 1) (drop 1 p))
-item_plain [] h e = absurd (omega arith)
-item_plain (b ∷ s) h e = let m = member-plain b e in rw (take_rest (b ∷ s) 1, m.0, m.1, m.2, m.3, m.4) refl

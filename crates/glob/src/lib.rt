@@ -94,20 +94,23 @@ fn listed(negated: bool, members: &[u8]) -> Option<(Token<'_>, &[u8])>
 }
 
 // The item at the start of the pattern, and what follows it.
-#[tactic(auto, using(crate::proofs::Splits::item_unlisted, crate::proofs::Splits::item_listed, crate::proofs::Splits::item_plain))]
 fn first_token(pattern: &[u8]) -> Option<(Token<'_>, &[u8])>
     ensures { option_map (λ x. (item_for x.0, x.1.now)) result ≡ split pattern.now (item_of pattern.now) }
 {
-    match pattern {
-        // Most bytes stand for themselves, and this test of them is the shortest.
-        [b, rest @ ..] if is_member(*b) => Some((Token::Byte(*b), rest)),
-        [b'*', rest @ ..] => Some((Token::AnyRun, rest)),
-        [b'?', rest @ ..] => Some((Token::One, rest)),
-        [b'\\', b, rest @ ..] => Some((Token::Byte(*b), rest)),
-        [b'[', b'!', rest @ ..] => listed(true, rest),
-        [b'[', rest @ ..] => listed(false, rest),
-        [] | [b'\\' | b'{' | b'}', ..] => None,
-        [b, rest @ ..] => Some((Token::Byte(*b), rest)),
+    let (byte, rest) = pattern.split_first()?;
+    match *byte {
+        b'*' => Some((Token::AnyRun, rest)),
+        b'?' => Some((Token::One, rest)),
+        b'\\' => {
+            let (escaped, rest) = rest.split_first()?;
+            Some((Token::Byte(*escaped), rest))
+        }
+        b'[' => match rest {
+            [b'!', members @ ..] => listed(true, members),
+            members => listed(false, members),
+        },
+        b'{' | b'}' => None,
+        byte => Some((Token::Byte(byte), rest)),
     }
 }
 
