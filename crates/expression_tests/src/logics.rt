@@ -1,8 +1,9 @@
 // Three-valued tables, and evaluations at the limits of the stack.
 use crate::Values;
-use expression::evaluate::evaluate;
+use expression::evaluate::{Leaves, evaluate};
 use expression::logic::Logic;
 use expression::nodes::Node;
+use std::cell::Cell;
 
 #[test]
 fn kleene_tables(rt: HostRuntime) {
@@ -84,4 +85,31 @@ fn no_tree(rt: HostRuntime) {
         evaluate(&[Node::Leaf(true), Node::Not], &Values, &mut stack),
         Some(false)
     );
+}
+
+// Leaves that count how often one is asked.
+#[derive(Drop)]
+struct Counted {
+    asked: Cell<usize>,
+}
+
+impl Leaves<bool, bool> for Counted {
+    ghost shows = { λ _ leaf. leaf };
+
+    fn value(&self, leaf: bool) -> bool {
+        self.asked.set(self.asked.get().wrapping_add(1));
+        leaf
+    }
+}
+
+// A leaf for whose value no place is left is not asked. No contract sees how often a leaf is asked.
+#[test]
+fn no_place_no_question(rt: HostRuntime) {
+    let leaves = Counted {
+        asked: Cell::new(0),
+    };
+    let nodes = [Node::Leaf(true), Node::Leaf(false), Node::Leaf(true)];
+    let mut stack = [false; 2];
+    assert_eq!(rt; evaluate(&nodes, &leaves, &mut stack), None);
+    assert_eq!(rt; leaves.asked.get(), 2);
 }
